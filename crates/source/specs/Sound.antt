@@ -5,7 +5,7 @@ use mathlib.Core.List.{List, [], _∷_, _++_}
 use Prim.Native.Nat.{ℕ, zero, suc, _+_, _<_}
 use native.Mathlib.Omega.{arith}
 use lib.Dec.{eqb}
-use lib.ListN.{getD, drop}
+use lib.ListN.{getD, take, drop}
 use lib.Seq.{getD-drop}
 use Rattle.source.specs.Bytes.{Octets}
 use Rattle.source.specs.Feed.{Feed, Sound, chained}
@@ -15,6 +15,12 @@ octets-none i = omega arith
 
 pub octets-drop : (n : ℕ) (xs : List ℕ) → Octets xs → Octets (drop n xs)
 octets-drop n xs h i = rw (getD-drop n xs i 0) (h (n + i))
+
+pub octets-take : (n : ℕ) (xs : List ℕ) → Octets xs → Octets (take n xs)
+octets-take zero xs h i = omega arith
+octets-take (suc n) [] h i = omega arith
+octets-take (suc n) (x ∷ xs) h zero = h 0
+octets-take (suc n) (x ∷ xs) h (suc i) = octets-take n xs (λ j. h (suc j)) i
 
 pub octets-first : (x : ℕ) (xs : List ℕ) → Octets (x ∷ xs) → x < 256
 octets-first x xs h = h 0

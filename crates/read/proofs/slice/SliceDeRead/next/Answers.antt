@@ -1,0 +1,16 @@
+use mathlib.Core.Path.{refl, ap}
+use native.Mathlib.Omega.{arith}
+use lib.Seq.{drop-drop, take-add}
+use Rattle.std.specs.declared.result.Result.the-variants.{Ok}
+use Rattle.read.proofs.Slices.{enough, lacks, first, untouched}
+use Rattle.read.proofs.slice.SliceDeRead.next.Needs as need
+
+pub returns-then-self : need.returns-then-self
+returns-then-self c =
+    let me = c .args .self .now in
+    rw (enough (me .slice .now) (me .index) 1 (omega arith)) (ap Ok (first (me .slice .now) (me .index)), simp (drop-drop, take-add) refl)
+
+pub returns-else-self : need.returns-else-self
+returns-else-self c =
+    let me = c .args .self .now in
+    rw (lacks (me .slice .now) (me .index) 1 (omega arith)) (refl, untouched (me .slice .now) (me .index) (me .peeked))
