@@ -1,0 +1,5 @@
+pub mod Bytes
+pub mod Telling
+pub mod Asking
+pub mod Integers
+pub mod Counts

@@ -1,0 +1,38 @@
+-- How what is told of a read goes into what is told of a longer one.
+use mathlib.Core.Path.{_≡_, refl, sym, ap, subst, _∙_}
+use mathlib.Core.Bool.{Bool, true, false, cond}
+use mathlib.Core.List.{List, []}
+use Prim.Native.Nat.{ℕ, _+_, _<_, _≤_}
+use native.Mathlib.Omega.{arith}
+use Rattle.std.specs.Results.{ErrBy}
+use Rattle.std.specs.declared.result.Result.{Result}
+use Rattle.std.specs.declared.result.Result.the-variants.{Ok, Err}
+use Rattle.read.specs.Reader.{View}
+use Rattle.format.specs.declared.refusal.ReadError.{ReadError}
+use Rattle.format.specs.declared.refusal.Refusal.{Refusal}
+use Rattle.bunser.specs.Outcome.{Outcome, got, bad, andThen, at, placed, readLeaves, refusalLeaves, TellsBy, Tells, TellsAt}
+
+pub ok-err : {A E : Type 0} {a : A} {e : E} {P : Type 0} → _≡_ {A = Result A E} (Ok a) (Err e) → P
+ok-err e = let z : _≡_ {A = ℕ} 0 1 = cc in absurd (omega arith)
+
+pub err-is : {B E : Type 0} (r : Result B E) (e : E) → ErrBy r (λ f. f ≡ e) → r ≡ Err e
+err-is (Ok x) e h = absurd h
+err-is (Err f) e h = ap Err h
+
+module _ {E : Type 0} (leaves : E → View → View → Type 0) where
+  pub told-ok : {A : Type 0} (m : Outcome E A) (a : A) (w : View) → TellsBy leaves m (Ok a) w → m ≡ got a w
+  told-ok (got b v) a w (e, f) = let k : b ≡ a = cc in let l : v ≡ w = cc in cc
+  told-ok (bad n v) a w (e, f) = ok-err e
+
+  pub then-ok : {A B : Type 0} (m : Outcome E A) (f : A → View → Outcome E B) (a : A) (w : View) (r : Result B E) (u : View) →
+      TellsBy leaves m (Ok a) w → TellsBy leaves (f a w) r u → TellsBy leaves (andThen m f) r u
+  then-ok m f a w r u h k = subst (λ m. TellsBy leaves (andThen m f) r u) (sym (told-ok m a w h)) k
+
+  pub then-err : {A B : Type 0} (m : Outcome E A) (f : A → View → Outcome E B) (e : E) (w : View) → TellsBy leaves m (Err e) w → TellsBy leaves (andThen m f) (Err e) w
+  then-err (got b v) f e w (h, k) = ok-err (sym h)
+  then-err (bad n v) f e w (h, k) = let z : n ≡ e = cc in (ap Err (sym z), k)
+
+  -- a `?`
+  pub then-stop : {A B : Type 0} (m : Outcome E A) (f : A → View → Outcome E B) (e : E) (w : View) (r : Result B E) →
+      TellsBy leaves m (Err e) w → ErrBy r (λ f. f ≡ e) → TellsBy leaves (andThen m f) r w
+  then-stop m f e w r h k = subst (λ z. TellsBy leaves (andThen m f) z w) (sym (err-is r e k)) (then-err m f e w h)
