@@ -10,7 +10,7 @@ use Rattle.std.specs.declared.result.Result.the-variants.{Ok, Err}
 use Rattle.read.specs.Reader.{View}
 use Rattle.format.specs.declared.refusal.ReadError.{ReadError}
 use Rattle.format.specs.declared.refusal.Refusal.{Refusal}
-use Rattle.bunser.specs.Outcome.{Outcome, got, bad, andThen, at, placed, readLeaves, refusalLeaves, TellsBy, Tells, TellsAt}
+use Rattle.bunser.specs.Outcome.{Outcome, got, bad, andThen, at, placed, placedResult, readLeaves, refusalLeaves, TellsBy, Tells, TellsAt}
 
 pub ok-err : {A E : Type 0} {a : A} {e : E} {P : Type 0} → _≡_ {A = Result A E} (Ok a) (Err e) → P
 ok-err e = let z : _≡_ {A = ℕ} 0 1 = cc in absurd (omega arith)
@@ -36,3 +36,21 @@ module _ {E : Type 0} (leaves : E → View → View → Type 0) where
   pub then-stop : {A B : Type 0} (m : Outcome E A) (f : A → View → Outcome E B) (e : E) (w : View) (r : Result B E) →
       TellsBy leaves m (Err e) w → ErrBy r (λ f. f ≡ e) → TellsBy leaves (andThen m f) r w
   then-stop m f e w r h k = subst (λ z. TellsBy leaves (andThen m f) z w) (sym (err-is r e k)) (then-err m f e w h)
+
+-- a read that begins at a place
+pub told-placed : {A : Type 0} (m : Outcome ReadError A) (p q : ℕ) (r : Result A ReadError) (s : Result A Refusal) (w : View) → p ≡ q → Tells m r w → s ≡ placedResult p r → TellsAt (placed q m) s w
+told-placed m p q r s w same h is = subst (λ q. TellsAt (placed q m) s w) same (subst (λ s. TellsAt (placed p m) s w) (sym is) (go m r h))
+  where
+    go : {A : Type 0} (m : Outcome ReadError A) (r : Result A ReadError) → Tells m r w → TellsAt (placed p m) (placedResult p r) w
+    go (got a v) (Ok x) (e, h) = let k : x ≡ a = cc in (ap Ok k, h)
+    go (got a v) (Err x) (e, h) = ok-err (sym e)
+    go (bad f v) (Ok x) (e, h) = ok-err e
+    go (bad f v) (Err x) (e, h) = let k : x ≡ f = cc in (ap (λ y. Err (at y p)) k, h)
+
+pub on-true : {E A : Type 0} (leaves : E → View → View → Type 0) (b : Bool) (m n : Outcome E A) (r : Result A E) (w : View) → b ≡ true → TellsBy leaves m r w → TellsBy leaves (cond b m n) r w
+on-true leaves true m n r w e h = h
+on-true leaves false m n r w e h = let z : _≡_ {A = ℕ} 0 1 = cc in absurd (omega arith)
+
+pub on-false : {E A : Type 0} (leaves : E → View → View → Type 0) (b : Bool) (m n : Outcome E A) (r : Result A E) (w : View) → b ≡ false → TellsBy leaves n r w → TellsBy leaves (cond b m n) r w
+on-false leaves true m n r w e h = let z : _≡_ {A = ℕ} 0 1 = cc in absurd (omega arith)
+on-false leaves false m n r w e h = h

@@ -32,6 +32,10 @@ abbrev pub placed : {A : Type 0} → ℕ → Outcome ReadError A → Outcome Ref
 placed p (got a v) = got a v
 placed p (bad e v) = bad (at e p) v
 
+abbrev pub placedResult : {A : Type 0} → ℕ → Result A ReadError → Result A Refusal
+placedResult p (Ok a) = Ok a
+placedResult p (Err e) = Err (at e p)
+
 -- ---- the questions of a read
 
 abbrev pub errorOf : Fault → ReadError

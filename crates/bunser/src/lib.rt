@@ -6,8 +6,8 @@ ghost use lib.ListN.{length, take, drop};
 ghost use Rattle.std.specs.declared.option.Option.the-variants.{Some, None};
 ghost use Rattle.read.specs.Reader.{past, room, put, discarded};
 ghost use Rattle.format.specs.Integers.{halfOf, twosComplement};
-ghost use Rattle.bunser.specs.Outcome.{errorOf, asked, Tells, TellsAt};
-ghost use Rattle.bunser.specs.Reads.{peek-read, bytes-read, fronts, eight-read, int-read, tagged-int-read, count-read, magic-read, capabilities-read, length-read, header-read, endOf};
+ghost use Rattle.bunser.specs.Outcome.{errorOf, asked, placedResult, Tells, TellsAt};
+ghost use Rattle.bunser.specs.Reads.{peek-read, bytes-read, fronts, eight-read, int-read, tagged-int-read, count-read, magical, magic-read, capabilities-read, length-read, header-read, endOf};
 use format::refusal::Kind;
 use format::refusal::ReadError;
 use format::refusal::Refusal;
@@ -81,6 +81,22 @@ fn signed(width: Width, bits: u64) -> i64
         Width::W64 => (1 << 63, i64::MIN),
     };
     if bits < half { bits as i64 } else { (bits - half) as i64 + least }
+}
+
+fn is_magic(first: u8, second: u8) -> bool
+    ensures { λ r. ⌜ r ≡ magical first second ⌝ }
+{
+    first == MAGIC.0 && second == MAGIC.1
+}
+
+// What a read that begins at this place has come to.
+fn placed<T>(read: Result<T, ReadError>, place: usize) -> Result<T, Refusal>
+    ensures { λ r. ⌜ r ≡ placedResult place read ⌝ }
+{
+    match read {
+        Ok(x) => Ok(x),
+        Err(error) => Err(error.at(place)),
+    }
 }
 
 impl<R: DeRead> Bunser<R> {
@@ -196,15 +212,11 @@ impl<R: DeRead> Bunser<R> {
         ensures same { λ _. ⌜ now (self .exit) .end ≡ now (self .entry) .end ⌝ }
     {
         let place = self.read_count();
-        let bytes = match self.read_eight(2) {
-            Ok(bytes) => bytes,
-            Err(error) => return Err(error.at(place)),
-        };
-        let (first, second) = (bytes[0], bytes[1]);
-        if first == MAGIC.0 && second == MAGIC.1 {
-            return Ok(());
+        let bytes = placed(self.read_eight(2), place)?;
+        if !is_magic(bytes[0], bytes[1]) {
+            return Err(ReadError::Magic(bytes[0], bytes[1]).at(place));
         }
-        Err(ReadError::Magic(first, second).at(place))
+        Ok(())
     }
 
     fn read_capabilities(&mut self) -> Result<u32, Refusal>
@@ -212,10 +224,8 @@ impl<R: DeRead> Bunser<R> {
         ensures same { λ _. ⌜ now (self .exit) .end ≡ now (self .entry) .end ⌝ }
     {
         let place = self.read_count();
-        match self.read_eight(4) {
-            Ok([a, b, c, d, ..]) => Ok(u32::from_le_bytes([a, b, c, d])),
-            Err(error) => Err(error.at(place)),
-        }
+        let bytes = placed(self.read_eight(4), place)?;
+        Ok(u64::from_le_bytes(bytes) as u32)
     }
 
     // The length of the body, which begins behind it.
@@ -224,10 +234,7 @@ impl<R: DeRead> Bunser<R> {
         ensures same { λ _. ⌜ now (self .exit) .end ≡ now (self .entry) .end ⌝ }
     {
         let place = self.read_count();
-        let length = match self.next_count() {
-            Ok(length) => length,
-            Err(error) => return Err(error.at(place)),
-        };
+        let length = placed(self.next_count(), place)?;
         let start = self.read_count();
         if passes(Some(FARTHEST), start, length) {
             return Err(ReadError::TooLong.at(place));

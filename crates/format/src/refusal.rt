@@ -136,7 +136,7 @@ impl ReadError {
 
     /// The refusal of a read that begins at this place.
     pub fn at(self, place: usize) -> Refusal
-        ensures { λ r. ⌜ (r .place ≡ place) × (r .cause ≡ Read self) ⌝ }
+        ensures { λ r. ⌜ r ≡ record { place = place; cause = Read self } ⌝ }
     {
         Refusal { place, cause: Cause::Read(self) }
     }
