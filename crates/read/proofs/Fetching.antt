@@ -63,15 +63,15 @@ behind-held None f n some = let e : n - 0 ≡ n = omega arith in rw e
 behind-held (Some b) f zero some = absurd (some refl)
 behind-held (Some b) f (suc n) some = let e : suc n - 1 ≡ n = omega arith in rw e
 
-module _ (f g : Feed) (o : Option ℕ) (k m n : ℕ) (buf part : List ℕ) (same : m ≡ n) (before : n ≤ 1152921504606846992 - k) (stops : k ≤ 1152921504606846992) (fits : n ≤ length buf) (some : n ≡ 0 → ⊥) where
+module _ (f g : Feed) (o p : Option ℕ) (held : o ≡ p) (k m n : ℕ) (buf part : List ℕ) (same : m ≡ n) (before : n ≤ 1152921504606846992 - k) (stops : k ≤ 1152921504606846992) (fits : n ≤ length buf) (some : n ≡ 0 → ⊥) where
   long : length (take m buf) ≡ n
   long = rw length-take (omega arith)
 
   unstopped : ltb 1152921504606846992 (k + n) ≡ false
   unstopped = le-ltb _ _ (omega arith)
 
-  pub copied : Fetch o f (take m buf) (Ok tt) g part → NextBytes false (io-view f o k) n buf (Ok Copied) (io-view g None (k + n)) (part ++ drop m buf)
-  copied h = go (ltb (length (ahead o ++ f .bytes)) (length (take m buf))) refl h
+  pub copied : Fetch p f (take m buf) (Ok tt) g part → NextBytes false (io-view f o k) n buf (Ok Copied) (io-view g None (k + n)) (part ++ drop m buf)
+  copied h = go (ltb (length (ahead o ++ f .bytes)) (length (take m buf))) refl (subst (λ q. Fetch q f (take m buf) (Ok tt) g part) (sym held) h)
     where
       go : (t : Bool) → ltb (length (ahead o ++ f .bytes)) (length (take m buf)) ≡ t → FetchedBy t o f (take m buf) (Ok tt) g part → NextBytes false (io-view f o k) n buf (Ok Copied) (io-view g None (k + n)) (part ++ drop m buf)
       go true e h = let z : true ≡ false = ap isErr (sym (h .0)) in absurd (true≢false z)
@@ -99,8 +99,8 @@ module _ (f g : Feed) (o : Option ℕ) (k m n : ℕ) (buf part : List ℕ) (same
   told true e end is put = (ap Err is, spent, put)
   told false e end is put = (ap Err is, spent, put)
 
-  pub zeroed : (e : Fault) → Fetch o f (take m buf) (Err e) g part → NextBytes false (io-view f o k) n buf (Err e) (io-view g o k) (part ++ drop m buf)
-  zeroed e h = go (ltb (length (ahead o ++ f .bytes)) (length (take m buf))) refl h
+  pub zeroed : (e : Fault) → Fetch p f (take m buf) (Err e) g part → NextBytes false (io-view f o k) n buf (Err e) (io-view g o k) (part ++ drop m buf)
+  zeroed e h = go (ltb (length (ahead o ++ f .bytes)) (length (take m buf))) refl (subst (λ q. Fetch q f (take m buf) (Err e) g part) (sym held) h)
     where
       go : (t : Bool) → ltb (length (ahead o ++ f .bytes)) (length (take m buf)) ≡ t → FetchedBy t o f (take m buf) (Err e) g part → NextBytes false (io-view f o k) n buf (Err e) (io-view g o k) (part ++ drop m buf)
       go false q h = let z : false ≡ true = ap isErr (sym (h .0)) in absurd (true≢false (sym z))

@@ -2,7 +2,7 @@ ghost use mathlib.Core.Path.{_≡_};
 ghost use mathlib.Core.Bool.{false};
 ghost use Prim.Native.Nat.{_+_, _<_, _≤_};
 ghost use lib.ListN.{length};
-ghost use Rattle.std.specs.declared.option.Option.the-variants.{None};
+ghost use Rattle.std.specs.declared.option.Option.the-variants.{Some, None};
 ghost use Rattle.source.specs.Bytes.{Octets};
 ghost use Rattle.read.specs.Held.{ahead, Fetch, FetchOne};
 ghost use Rattle.read.specs.Reader.{shortfall};
@@ -44,19 +44,25 @@ fn fetch_one<S: Source>(source: &mut S) -> Result<u8, Fault>
     }
 }
 
-// Fills the part of the buffer, a held byte first, straight from the source. The part is zeroed
-// where the source ends first.
-fn fetch<S: Source>(source: &mut S, held: Option<u8>, part: &mut [u8]) -> Result<(), Fault>
+// Fills the part of the buffer straight from the source, behind the byte that was held.
+fn fetch_behind<S: Source>(source: &mut S, held: u8, part: &mut [u8]) -> Result<(), Fault>
     requires { ⌜ 0 < length (now part) ⌝ }
-    ensures { λ r. ⌜ Fetch held (feed (now (source .entry))) (now (part .entry)) r (feed (now (source .exit))) (now (part .exit)) ⌝ }
+    ensures { λ r. ⌜ Fetch (Some held) (feed (now (source .entry))) (now (part .entry)) r (feed (now (source .exit))) (now (part .exit)) ⌝ }
 {
-    let got = if let Some(b) = held {
-        part[0] = b;
-        read_exact(source, &mut part[1..])
-    } else {
-        read_exact(source, part)
-    };
-    if let Err(ending) = got {
+    part[0] = held;
+    if let Err(ending) = read_exact(source, &mut part[1..]) {
+        part.fill(0);
+        return Err(short_by(ending));
+    }
+    Ok(())
+}
+
+// Fills the part of the buffer straight from the source. Where the source ends first, what came
+// is wiped out.
+fn fetch<S: Source>(source: &mut S, part: &mut [u8]) -> Result<(), Fault>
+    ensures { λ r. ⌜ Fetch None (feed (now (source .entry))) (now (part .entry)) r (feed (now (source .exit))) (now (part .exit)) ⌝ }
+{
+    if let Err(ending) = read_exact(source, part) {
         part.fill(0);
         return Err(short_by(ending));
     }
@@ -124,7 +130,10 @@ pub impl<S: Source> DeRead for IoRead<S> as IoDeRead {
         if n == 0 {
             return Ok(Taken::Copied);
         }
-        fetch(&mut self.source, self.peeked, &mut buf[0..n])?;
+        match self.peeked {
+            Some(held) => fetch_behind(&mut self.source, held, &mut buf[0..n])?,
+            None => fetch(&mut self.source, &mut buf[0..n])?,
+        }
         self.peeked = None;
         self.read_count += n;
         Ok(Taken::Copied)
