@@ -19,7 +19,7 @@ use Rattle.std.specs.declared.option.Option.the-variants.{Some, None}
 use Rattle.format.specs.declared.width.Width.{Width}
 use Rattle.format.specs.declared.width.Width.the-variants.{W8, W16, W32, W64}
 use Rattle.format.specs.Integers.{bytesOf, halfOf, littleEndian}
-use Rattle.bunser.specs.Reads.{padded}
+use Rattle.bunser.specs.Reads.{padded, eight-digits}
 
 -- one byte more is copied to the front
 pub copied-more : (i : ℕ) (s d : List ℕ) → i < length d → i < length s → set (take i s ++ drop i d) i (getD s i 0) ≡ take (i + 1) s ++ drop (i + 1) d
@@ -55,9 +55,6 @@ pub le-zeros : (xs : List ℕ) (k : ℕ) → littleEndian (xs ++ replicate k 0) 
 le-zeros [] zero = refl
 le-zeros [] (suc k) = let i = le-zeros [] k in omega arith
 le-zeros (x ∷ xs) k = ap (λ n. x + 256 * n) (le-zeros xs k)
-
-abbrev pub eight-digits : List ℕ → ℕ
-eight-digits xs = getD xs 0 0 + getD xs 1 0 * 256 + getD xs 2 0 * 65536 + getD xs 3 0 * 16777216 + getD xs 4 0 * 4294967296 + getD xs 5 0 * 1099511627776 + getD xs 6 0 * 281474976710656 + getD xs 7 0 * 72057594037927936
 
 pub le-eight : (xs : List ℕ) → length xs ≡ 8 → eight-digits xs ≡ littleEndian xs
 le-eight [] e = absurd (omega arith)

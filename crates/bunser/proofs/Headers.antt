@@ -7,6 +7,7 @@ use native.Mathlib.Omega.{arith}
 use lib.ListN.{length, getD, take}
 use Rattle.std.proofs.shelf.Tests.{ltb-false}
 use Rattle.std.specs.Results.{ErrBy}
+use Rattle.std.specs.Vec.{made}
 use Rattle.std.specs.declared.option.Option.{Option}
 use Rattle.std.specs.declared.option.Option.the-variants.{Some, None}
 use Rattle.std.specs.declared.result.Result.{Result}
@@ -20,9 +21,8 @@ use Rattle.format.specs.declared.refusal.Refusal.{Refusal}
 use Rattle.format.specs.Integers.{littleEndian}
 use Rattle.bunser.specs.declared.Header.{Header}
 use Rattle.bunser.specs.Outcome.{Outcome, got, bad, andThen, at, placed, placedResult, asked, answer, refusalLeaves, TellsBy, Tells, TellsAt}
-use Rattle.bunser.specs.Reads.{padded, eight-read, count-read, magical, is-magic, magic-read, capabilities-read, bounded, length-read, header-read, endOf}
+use Rattle.bunser.specs.Reads.{padded, eight-digits, eight-read, count-read, magical, is-magic, magic-read, capabilities-read, bounded, length-read, header-read}
 use Rattle.bunser.proofs.Telling.{told-ok, told-placed, then-ok, then-stop, on-true, on-false, ok-err, err-is}
-use Rattle.bunser.proofs.Bytes.{eight-digits}
 use Rattle.bunser.proofs.Asking.{given, give, answer-stop}
 use Rattle.bunser.proofs.Integers.{eight-bits, eight-below}
 
@@ -121,9 +121,10 @@ bounded-sum p caps n v h w e = go (past (Some 1152921504606846976) (v .count + n
         let same : record { capabilities = caps; start = v .count; length = n } ≡ h = cc in
         subst (λ (x : Header). x .start + x .length ≤ 1152921504606846976) same (ltb-false 1152921504606846976 (v .count + n) q)
 
-pub length-sum : (lends : Bool) (end : Option ℕ) (caps : ℕ) (v : View) (h : Header) (w : View) → TellsAt (length-read lends end caps v) (Ok h) w → h .start + h .length ≤ 1152921504606846976
+pub length-sum : (lends : Bool) (end : Option ℕ) (caps : ℕ) (v : View) (r : Result Header Refusal) (w : View) → TellsAt (length-read lends end caps v) r w → made r (λ h. h .start + h .length ≤ 1152921504606846976)
 unfolding length-read
-length-sum lends end caps v h w t = go (placed (v .count) (count-read lends end v)) (told-ok refusalLeaves (length-read lends end caps v) h w t)
+length-sum lends end caps v (Err f) w t = tt
+length-sum lends end caps v (Ok h) w t = go (placed (v .count) (count-read lends end v)) (told-ok refusalLeaves (length-read lends end caps v) h w t)
   where
     go : (m : Outcome Refusal ℕ) → andThen m (bounded (v .count) caps) ≡ got h w → h .start + h .length ≤ 1152921504606846976
     go (got n u) e = bounded-sum (v .count) caps n u h w e
@@ -131,31 +132,25 @@ length-sum lends end caps v h w t = go (placed (v .count) (count-read lends end 
 
 -- ---- the whole header, whose parts are read while no end is declared
 
-pub no-end : (s : Result Header Refusal) (f : Refusal) (end : Option ℕ) → end ≡ None → ErrBy s (λ e. e ≡ f) → end ≡ endOf s
-no-end s f end none by = none ∙ sym (ap endOf (err-is s f by))
-
 module _ (lends : Bool) (v : View) where
-  pub header-stop : (w : View) (f : Refusal) (s : Result Header Refusal) → TellsAt (magic-read lends None v) (Err f) w → ErrBy s (λ e. e ≡ f) → TellsAt (header-read lends v) s w
-  unfolding header-read
-  header-stop w f s h by = then-stop refusalLeaves (magic-read lends None v) (λ _ w. andThen (capabilities-read lends None w) (length-read lends None)) f w s h by
+  unended : (end : Option ℕ) → end ≡ None → (r : Result Unit Refusal) (w : View) → TellsAt (magic-read lends end v) r w → TellsAt (magic-read lends None v) r w
+  unended end none r w h = subst (λ e. TellsAt (magic-read lends e v) r w) none h
 
-  module _ (w : View) (end : Option ℕ) (none : end ≡ None) (first : TellsAt (magic-read lends None v) (Ok tt) w) where
+  pub header-stop : (end : Option ℕ) → end ≡ None → (w : View) (f : Refusal) (s : Result Header Refusal) → TellsAt (magic-read lends end v) (Err f) w → ErrBy s (λ e. e ≡ f) → TellsAt (header-read lends v) s w
+  unfolding header-read
+  header-stop end none w f s h by = then-stop refusalLeaves (magic-read lends None v) (λ _ w. andThen (capabilities-read lends None w) (length-read lends None)) f w s (unended end none (Err f) w h) by
+
+  module _ (w : View) (end₀ : Option ℕ) (none₀ : end₀ ≡ None) (first : TellsAt (magic-read lends end₀ v) (Ok tt) w) (end : Option ℕ) (none : end ≡ None) where
     behind-magic : (s : Result Header Refusal) (u : View) → TellsAt (andThen (capabilities-read lends None w) (length-read lends None)) s u → TellsAt (header-read lends v) s u
     unfolding header-read
-    behind-magic s u h = then-ok refusalLeaves (magic-read lends None v) (λ _ w. andThen (capabilities-read lends None w) (length-read lends None)) tt w s u first h
+    behind-magic s u h = then-ok refusalLeaves (magic-read lends None v) (λ _ w. andThen (capabilities-read lends None w) (length-read lends None)) tt w s u (unended end₀ none₀ (Ok tt) w first) h
 
     pub header-stop-capabilities : (u : View) (f : Refusal) (s : Result Header Refusal) → TellsAt (capabilities-read lends end w) (Err f) u → ErrBy s (λ e. e ≡ f) → TellsAt (header-read lends v) s u
     header-stop-capabilities u f s h by =
         behind-magic s u (then-stop refusalLeaves (capabilities-read lends None w) (length-read lends None) f u s (subst (λ e. TellsAt (capabilities-read lends e w) (Err f) u) none h) by)
 
     module _ (u : View) (caps : ℕ) (end₂ : Option ℕ) (none₂ : end₂ ≡ end) (second : TellsAt (capabilities-read lends end w) (Ok caps) u) where
-      behind-capabilities : (s : Result Header Refusal) (x : View) → TellsAt (length-read lends end₂ caps u) s x → TellsAt (header-read lends v) s x
-      behind-capabilities s x h =
+      pub header-told : (s : Result Header Refusal) (x : View) → TellsAt (length-read lends end₂ caps u) s x → TellsAt (header-read lends v) s x
+      header-told s x h =
           behind-magic s x (then-ok refusalLeaves (capabilities-read lends None w) (length-read lends None) caps u s x (subst (λ e. TellsAt (capabilities-read lends e w) (Ok caps) u) none second)
           (subst (λ e. TellsAt (length-read lends e caps u) s x) (none₂ ∙ none) h))
-
-      pub header-stop-length : (x : View) (f : Refusal) (s : Result Header Refusal) → TellsAt (length-read lends end₂ caps u) (Err f) x → ErrBy s (λ e. e ≡ f) → TellsAt (header-read lends v) s x
-      header-stop-length x f s h by = behind-capabilities s x (subst (λ r. TellsAt (length-read lends end₂ caps u) r x) (sym (err-is s f by)) h)
-
-      pub header-told : (x : View) (h : Header) → TellsAt (length-read lends end₂ caps u) (Ok h) x → TellsAt (header-read lends v) (Ok h) x
-      header-told x h t = behind-capabilities (Ok h) x t

@@ -17,8 +17,8 @@ use Rattle.format.specs.declared.refusal.ReadError.{ReadError}
 use Rattle.format.specs.declared.width.Width.{Width}
 use Rattle.format.specs.Integers.{bytesOf, halfOf, littleEndian, twosComplement}
 use Rattle.bunser.specs.Outcome.{asked, Tells}
-use Rattle.bunser.specs.Reads.{padded, eight-read, int-read}
-use Rattle.bunser.proofs.Bytes.{eight-digits, le-padded, int-below, few-bytes}
+use Rattle.bunser.specs.Reads.{padded, eight-digits, eight-read, int-read}
+use Rattle.bunser.proofs.Bytes.{le-padded, int-below, few-bytes}
 use Rattle.bunser.proofs.Asking.{granted, Given, given, give, answer-stop}
 
 module _ (w : Width) (lends : Bool) (end : Option ℕ) (n : ℕ) (v u : View) (bytes : List ℕ) (bits : ℕ) (width : n ≡ bytesOf w) where

@@ -2,5 +2,4 @@ pub mod Bytes
 pub mod Telling
 pub mod Asking
 pub mod Integers
-pub mod Counts
 pub mod Headers

@@ -8,9 +8,12 @@ use Rattle.std.specs.Results.{ErrBy}
 use Rattle.std.specs.declared.result.Result.{Result}
 use Rattle.std.specs.declared.result.Result.the-variants.{Ok, Err}
 use Rattle.read.specs.Reader.{View}
+use Rattle.read.proofs.Slices.{nothing-lost}
 use Rattle.format.specs.declared.refusal.ReadError.{ReadError}
+use Rattle.format.specs.declared.refusal.ReadError.the-variants.{End, Stop, Room, Short, Source, Magic, Byte, Negative, TooLong, NotText}
 use Rattle.format.specs.declared.refusal.Refusal.{Refusal}
 use Rattle.bunser.specs.Outcome.{Outcome, got, bad, andThen, at, placed, placedResult, readLeaves, refusalLeaves, TellsBy, Tells, TellsAt}
+use Rattle.bunser.specs.Reads.{told-as}
 
 pub ok-err : {A E : Type 0} {a : A} {e : E} {P : Type 0} → _≡_ {A = Result A E} (Ok a) (Err e) → P
 ok-err e = let z : _≡_ {A = ℕ} 0 1 = cc in absurd (omega arith)
@@ -54,3 +57,21 @@ on-true leaves false m n r w e h = let z : _≡_ {A = ℕ} 0 1 = cc in absurd (o
 pub on-false : {E A : Type 0} (leaves : E → View → View → Type 0) (b : Bool) (m n : Outcome E A) (r : Result A E) (w : View) → b ≡ false → TellsBy leaves n r w → TellsBy leaves (cond b m n) r w
 on-false leaves true m n r w e h = let z : _≡_ {A = ℕ} 0 1 = cc in absurd (omega arith)
 on-false leaves false m n r w e h = h
+
+-- a refusal that takes nothing leaves the reader as it was
+pub unmoved : (e : ReadError) (v : View) → readLeaves e v v
+unmoved End v = refl
+unmoved Stop v = refl
+unmoved Room v = refl
+unmoved Short v = nothing-lost v
+unmoved (Source code) v = nothing-lost v
+unmoved (Magic a b) v = refl
+unmoved (Byte kind b) v = refl
+unmoved Negative v = refl
+unmoved TooLong v = refl
+unmoved NotText v = refl
+
+-- a result that takes nothing from the reader
+pub told-result : {A : Type 0} (s r : Result A ReadError) (w : View) → r ≡ s → Tells (told-as s w) r w
+told-result (Ok a) r w is = (is, refl)
+told-result (Err e) r w is = (is, unmoved e w)

@@ -2,7 +2,7 @@
 use mathlib.Core.Path.{_≡_}
 use mathlib.Core.Bool.{Bool, true, false, cond, _&&_}
 use mathlib.Core.List.{List, [], _++_}
-use Prim.Native.Nat.{ℕ, _+_, _-_}
+use Prim.Native.Nat.{ℕ, _+_, _-_, _*_}
 use lib.Dec.{eqb}
 use lib.IntN.{ℤ, pos, negsuc}
 use lib.ListN.{length, getD, take, drop, replicate}
@@ -52,27 +52,43 @@ padded n xs = take n xs ++ replicate (8 - n) 0
 abbrev pub eight-read : Bool → Option ℕ → ℕ → View → Outcome ReadError (List ℕ)
 eight-read lends end n v = answer (asked end v None n) v (padded n (v .coming)) (advanced lends n v)
 
+-- the number in eight bytes, the lowest first
+abbrev pub eight-digits : List ℕ → ℕ
+eight-digits xs = getD xs 0 0 + getD xs 1 0 * 256 + getD xs 2 0 * 65536 + getD xs 3 0 * 16777216 + getD xs 4 0 * 4294967296 + getD xs 5 0 * 1099511627776 + getD xs 6 0 * 281474976710656 + getD xs 7 0 * 72057594037927936
+
 -- ---- integers
 
 -- the bytes behind an integer's tag, in one read
 abbrev pub int-read : Bool → Option ℕ → Width → View → Outcome ReadError ℤ
 int-read lends end w v = answer (asked end v None (bytesOf w)) v (twosComplement w (littleEndian (take (bytesOf w) (v .coming)))) (advanced lends (bytesOf w) v)
 
+-- the width of the integer that a tag begins
+abbrev pub intWidthBy : Option Width → ℕ → Result Width ReadError
+intWidthBy (Some w) t = Ok w
+intWidthBy None t = Err (Byte Integer t)
+
+abbrev pub intWidth : ℕ → Result Width ReadError
+intWidth t = intWidthBy (widthOf t) t
+
 -- the tag is taken once it is known to begin an integer
-abbrev pub behind-tag : Bool → Option ℕ → Option Width → ℕ → View → Outcome ReadError ℤ
-behind-tag lends end (Some w) t v = int-read lends end w (discarded lends v)
-behind-tag lends end None t v = bad (Byte Integer t) v
+abbrev pub behind-tag : Bool → Option ℕ → Result Width ReadError → View → Outcome ReadError ℤ
+behind-tag lends end (Ok w) v = int-read lends end w (discarded lends v)
+behind-tag lends end (Err e) v = bad e v
 
 unfoldable pub tagged-int-read : Bool → Option ℕ → View → Outcome ReadError ℤ
-tagged-int-read lends end v = andThen (peek-read end v) (λ t w. behind-tag lends end (widthOf t) t w)
+tagged-int-read lends end v = andThen (peek-read end v) (λ t w. behind-tag lends end (intWidth t) w)
 
 -- a count or a length is not negative
-abbrev pub counted : ℤ → View → Outcome ReadError ℕ
-counted (pos n) v = got n v
-counted (negsuc n) v = bad Negative v
+abbrev pub countOf : ℤ → Result ℕ ReadError
+countOf (pos n) = Ok n
+countOf (negsuc n) = Err Negative
+
+abbrev pub told-as : {A : Type 0} → Result A ReadError → View → Outcome ReadError A
+told-as (Ok a) v = got a v
+told-as (Err e) v = bad e v
 
 unfoldable pub count-read : Bool → Option ℕ → View → Outcome ReadError ℕ
-count-read lends end v = andThen (tagged-int-read lends end v) counted
+count-read lends end v = andThen (tagged-int-read lends end v) (λ z w. told-as (countOf z) w)
 
 -- ---- the header
 

@@ -4,10 +4,11 @@ ghost use mathlib.Core.List.{_++_};
 ghost use Prim.Native.Nat.{_+_, _-_, _*_, _<_, _≤_};
 ghost use lib.ListN.{length, take, drop};
 ghost use Rattle.std.specs.declared.option.Option.the-variants.{Some, None};
+ghost use Rattle.std.specs.Vec.{made};
 ghost use Rattle.read.specs.Reader.{past, room, put, discarded};
 ghost use Rattle.format.specs.Integers.{halfOf, twosComplement};
 ghost use Rattle.bunser.specs.Outcome.{errorOf, asked, placedResult, Tells, TellsAt};
-ghost use Rattle.bunser.specs.Reads.{peek-read, bytes-read, fronts, eight-read, int-read, tagged-int-read, count-read, magical, magic-read, capabilities-read, length-read, header-read, endOf};
+ghost use Rattle.bunser.specs.Reads.{peek-read, bytes-read, fronts, eight-read, eight-digits, int-read, intWidth, tagged-int-read, countOf, count-read, magical, magic-read, capabilities-read, length-read, header-read, endOf};
 use format::refusal::Kind;
 use format::refusal::ReadError;
 use format::refusal::Refusal;
@@ -69,6 +70,13 @@ fn copy_last<R: DeRead>(read: &R, n: usize, bytes: &mut [u8; 8])
     }
 }
 
+// The number in eight bytes, the lowest first.
+fn little_endian(bytes: [u8; 8]) -> u64
+    ensures { λ r. ⌜ r ≡ eight-digits bytes ⌝ }
+{
+    u64::from_le_bytes(bytes)
+}
+
 // The number that these bits mean in an integer of this width.
 fn signed(width: Width, bits: u64) -> i64
     requires { ⌜ bits < 2 * halfOf width ⌝ }
@@ -81,6 +89,23 @@ fn signed(width: Width, bits: u64) -> i64
         Width::W64 => (1 << 63, i64::MIN),
     };
     if bits < half { bits as i64 } else { (bits - half) as i64 + least }
+}
+
+// The width of the integer that this tag begins.
+fn int_width(tag: u8) -> Result<Width, ReadError>
+    ensures { λ r. ⌜ r ≡ intWidth tag ⌝ }
+{
+    match Width::of_tag(tag) {
+        Some(width) => Ok(width),
+        None => Err(ReadError::Byte(Kind::Integer, tag)),
+    }
+}
+
+// A count or a length is not negative.
+fn count_of(value: i64) -> Result<usize, ReadError>
+    ensures { λ r. ⌜ r ≡ countOf value ⌝ }
+{
+    if value < 0 { Err(ReadError::Negative) } else { Ok(value as usize) }
 }
 
 fn is_magic(first: u8, second: u8) -> bool
@@ -178,7 +203,7 @@ impl<R: DeRead> Bunser<R> {
         ensures same { λ _. ⌜ now (self .exit) .end ≡ now (self .entry) .end ⌝ }
     {
         let bytes = self.read_eight(width.bytes())?;
-        Ok(signed(width, u64::from_le_bytes(bytes)))
+        Ok(signed(width, little_endian(bytes)))
     }
 
     /// The next integer, of any width. The tag is taken once it is known to begin one.
@@ -187,9 +212,7 @@ impl<R: DeRead> Bunser<R> {
         ensures same { λ _. ⌜ now (self .exit) .end ≡ now (self .entry) .end ⌝ }
     {
         let tag = self.peek()?;
-        let Some(width) = Width::of_tag(tag) else {
-            return Err(ReadError::Byte(Kind::Integer, tag));
-        };
+        let width = int_width(tag)?;
         self.discard();
         self.next_int(width)
     }
@@ -200,10 +223,7 @@ impl<R: DeRead> Bunser<R> {
         ensures same { λ _. ⌜ now (self .exit) .end ≡ now (self .entry) .end ⌝ }
     {
         let value = self.check_next_int()?;
-        if value < 0 {
-            return Err(ReadError::Negative);
-        }
-        Ok(value as usize)
+        count_of(value)
     }
 
     // The two bytes with which every PDU begins.
@@ -225,7 +245,7 @@ impl<R: DeRead> Bunser<R> {
     {
         let place = self.read_count();
         let bytes = placed(self.read_eight(4), place)?;
-        Ok(u64::from_le_bytes(bytes) as u32)
+        Ok(little_endian(bytes) as u32)
     }
 
     // The length of the body, which begins behind it.
@@ -242,15 +262,25 @@ impl<R: DeRead> Bunser<R> {
         Ok(Header { capabilities, start, length })
     }
 
+    // The whole header, which stands before any declared end.
+    fn read_header(&mut self) -> Result<Header, Refusal>
+        requires { ⌜ now self .end ≡ None ⌝ }
+        ensures reads { λ r. ⌜ TellsAt (header-read (R·DeRead .lends) (R·DeRead .view (now (self .entry) .read))) r (R·DeRead .view (now (self .exit) .read)) ⌝ }
+        ensures bounds { λ r. ⌜ made r (λ h. h .start + h .length ≤ 1152921504606846976) ⌝ }
+        ensures same { λ _. ⌜ now (self .exit) .end ≡ None ⌝ }
+    {
+        self.read_magic()?;
+        let capabilities = self.read_capabilities()?;
+        self.read_length(capabilities)
+    }
+
     /// Reads the header of a PDU. Once it is accepted no read passes the declared end of the body.
     pub fn read_pdu(&mut self) -> Result<Header, Refusal>
         ensures reads { λ r. ⌜ TellsAt (header-read (R·DeRead .lends) (R·DeRead .view (now (self .entry) .read))) r (R·DeRead .view (now (self .exit) .read)) ⌝ }
         ensures bounds { λ r. ⌜ now (self .exit) .end ≡ endOf r ⌝ }
     {
         self.end = None;
-        self.read_magic()?;
-        let capabilities = self.read_capabilities()?;
-        let header = self.read_length(capabilities)?;
+        let header = self.read_header()?;
         self.end = Some(header.start + header.length);
         Ok(header)
     }

@@ -1,4 +1,6 @@
 ghost use mathlib.Core.Path.{_≡_};
+ghost use Prim.Native.Nat.{_+_};
+ghost use lib.Dec.{ltb};
 ghost use Rattle.read.specs.Reader.{fenced};
 ghost use Rattle.read.specs.Sound.{fence-sound};
 use super::DeRead;
@@ -27,6 +29,14 @@ impl<R: DeRead> Fence<R> {
         let Fence { below, stop: _ } = self;
         below
     }
+
+    // Whether a read of n bytes passes the fence.
+    fn bars(&self, n: usize) -> bool
+        ensures { λ r. ⌜ r ≡ ltb (now (self .entry) .stop) (R·DeRead .view (now (self .entry) .below) .count + n) ⌝ }
+    {
+        let at = self.below.read_count();
+        at > self.stop || n > self.stop - at
+    }
 }
 
 pub impl<R: DeRead> DeRead for Fence<R> as FenceDeRead {
@@ -37,14 +47,14 @@ pub impl<R: DeRead> DeRead for Fence<R> as FenceDeRead {
     ghost sound = { λ s. fence-sound (R·DeRead .lends) (s .stop) (R·DeRead .view (s .below)) (R·DeRead .sound (s .below)) };
 
     fn next(&mut self) -> Result<u8, Fault> {
-        if self.below.read_count() >= self.stop {
+        if self.bars(1) {
             return Err(Fault::Stop);
         }
         self.below.next()
     }
 
     fn peek(&mut self) -> Result<u8, Fault> {
-        if self.below.read_count() >= self.stop {
+        if self.bars(1) {
             return Err(Fault::Stop);
         }
         self.below.peek()
@@ -59,8 +69,7 @@ pub impl<R: DeRead> DeRead for Fence<R> as FenceDeRead {
     }
 
     fn next_bytes(&mut self, n: usize, buf: &mut [u8]) -> Result<Taken, Fault> {
-        let at = self.below.read_count();
-        if at > self.stop || n > self.stop - at {
+        if self.bars(n) {
             return Err(Fault::Stop);
         }
         self.below.next_bytes(n, buf)

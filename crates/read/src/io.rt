@@ -1,7 +1,7 @@
 ghost use mathlib.Core.Path.{_≡_};
 ghost use mathlib.Core.Bool.{false};
 ghost use Prim.Native.Nat.{_+_, _<_, _≤_};
-ghost use lib.ListN.{length};
+ghost use lib.ListN.{length, replicate};
 ghost use Rattle.std.specs.declared.option.Option.the-variants.{Some, None};
 ghost use Rattle.source.specs.Bytes.{Octets};
 ghost use Rattle.read.specs.Held.{ahead, Fetch, FetchOne};
@@ -44,6 +44,15 @@ fn fetch_one<S: Source>(source: &mut S) -> Result<u8, Fault>
     }
 }
 
+// Zeroes the part of a buffer that the source could not fill.
+fn wipe(part: &mut [u8], ending: u16) -> Fault
+    ensures value { λ r. ⌜ r ≡ shortfall ending ⌝ }
+    ensures after { λ _. ⌜ now (part .exit) ≡ replicate (length (now (part .entry))) 0 ⌝ }
+{
+    part.fill(0);
+    short_by(ending)
+}
+
 // Fills the part of the buffer straight from the source, behind the byte that was held.
 fn fetch_behind<S: Source>(source: &mut S, held: u8, part: &mut [u8]) -> Result<(), Fault>
     requires { ⌜ 0 < length (now part) ⌝ }
@@ -51,20 +60,17 @@ fn fetch_behind<S: Source>(source: &mut S, held: u8, part: &mut [u8]) -> Result<
 {
     part[0] = held;
     if let Err(ending) = read_exact(source, &mut part[1..]) {
-        part.fill(0);
-        return Err(short_by(ending));
+        return Err(wipe(part, ending));
     }
     Ok(())
 }
 
-// Fills the part of the buffer straight from the source. Where the source ends first, what came
-// is wiped out.
+// Fills the part of the buffer straight from the source.
 fn fetch<S: Source>(source: &mut S, part: &mut [u8]) -> Result<(), Fault>
     ensures { λ r. ⌜ Fetch None (feed (now (source .entry))) (now (part .entry)) r (feed (now (source .exit))) (now (part .exit)) ⌝ }
 {
     if let Err(ending) = read_exact(source, part) {
-        part.fill(0);
-        return Err(short_by(ending));
+        return Err(wipe(part, ending));
     }
     Ok(())
 }
@@ -114,10 +120,11 @@ pub impl<S: Source> DeRead for IoRead<S> as IoDeRead {
     }
 
     fn discard(&mut self) {
-        if let Some(_) = self.peeked {
-            self.peeked = None;
-            self.read_count += 1;
-        }
+        let Some(_) = self.peeked else {
+            return;
+        };
+        self.peeked = None;
+        self.read_count += 1; // a byte counts once it is taken
     }
 
     fn next_bytes(&mut self, n: usize, buf: &mut [u8]) -> Result<Taken, Fault> {

@@ -1,9 +1,11 @@
 ghost use mathlib.Core.Path.{_≡_};
 ghost use mathlib.Core.Bool.{true, false};
-ghost use Prim.Native.Nat.{_<_, _≤_};
-ghost use lib.ListN.{length};
+ghost use Prim.Native.Nat.{_+_, _<_, _≤_};
+ghost use lib.Dec.{ltb};
+ghost use lib.ListN.{length, getD};
 ghost use denote.Ref.{now};
 ghost use Rattle.source.specs.Bytes.{Octets};
+ghost use Rattle.read.specs.Reader.{Spent, advanced};
 ghost use Rattle.read.specs.Sound.{slice-view, slice-sound};
 use super::DeRead;
 use super::Fault;
@@ -28,6 +30,34 @@ impl<'a> SliceRead<'a> {
         let _ = slice.first();
         SliceRead { slice, index: 0, peeked: false }
     }
+
+    // Whether fewer than n bytes are to come. A slice that is too short loses none of them.
+    fn lacks(&self, n: usize) -> bool
+        ensures value { λ r. ⌜ r ≡ ltb (length (slice-view (now (self .entry) .slice .now) (now (self .entry) .index) (now (self .entry) .peeked) .coming)) n ⌝ }
+        ensures there { λ r. ⌜ (r ≡ false → now (self .entry) .index + n ≤ length (now (self .entry) .slice .now)) ⌝ }
+        ensures spent { λ _. ⌜ Spent (slice-view (now (self .entry) .slice .now) (now (self .entry) .index) (now (self .entry) .peeked)) (slice-view (now (self .entry) .slice .now) (now (self .entry) .index) (now (self .entry) .peeked)) ⌝ }
+    {
+        n > self.slice.len() - self.index
+    }
+
+    // The next byte, which is there.
+    fn first(&self) -> u8
+        requires { ⌜ now self .index < length (now self .slice .now) ⌝ }
+        ensures { λ r. ⌜ r ≡ getD (slice-view (now (self .entry) .slice .now) (now (self .entry) .index) (now (self .entry) .peeked) .coming) 0 0 ⌝ }
+    {
+        self.slice[self.index]
+    }
+
+    // Takes n bytes, which are there.
+    fn advance(&mut self, n: usize)
+        requires { ⌜ now self .index + n ≤ length (now self .slice .now) ⌝ }
+        ensures { λ _. ⌜ slice-view (now (self .exit) .slice .now) (now (self .exit) .index) (now (self .exit) .peeked) ≡ advanced true n (slice-view (now (self .entry) .slice .now) (now (self .entry) .index) (now (self .entry) .peeked)) ⌝ }
+    {
+        if n > 0 {
+            self.index += n;
+            self.peeked = false;
+        }
+    }
 }
 
 pub impl<'a> DeRead for SliceRead<'a> as SliceDeRead {
@@ -38,23 +68,20 @@ pub impl<'a> DeRead for SliceRead<'a> as SliceDeRead {
     ghost sound = { λ s. slice-sound (s .slice .now) (s .index) (s .peeked) (s .octets) (s .within) (s .held) };
 
     fn next(&mut self) -> Result<u8, Fault> {
-        if self.index < self.slice.len() {
-            let b = self.slice[self.index];
-            self.index += 1;
-            self.peeked = false;
-            Ok(b)
-        } else {
-            Err(Fault::Short)
+        if self.lacks(1) {
+            return Err(Fault::Short);
         }
+        let b = self.first();
+        self.advance(1);
+        Ok(b)
     }
 
     fn peek(&mut self) -> Result<u8, Fault> {
-        if self.index < self.slice.len() {
-            self.peeked = true;
-            Ok(self.slice[self.index])
-        } else {
-            Err(Fault::Short)
+        if self.lacks(1) {
+            return Err(Fault::Short);
         }
+        self.peeked = true;
+        Ok(self.first())
     }
 
     fn read_count(&self) -> usize {
@@ -63,29 +90,24 @@ pub impl<'a> DeRead for SliceRead<'a> as SliceDeRead {
 
     fn discard(&mut self) {
         if self.peeked {
-            self.index += 1;
-            self.peeked = false;
+            self.advance(1);
         }
     }
 
     fn next_bytes(&mut self, n: usize, buf: &mut [u8]) -> Result<Taken, Fault> {
-        let at = self.index;
-        if n > self.slice.len() - at {
+        if self.lacks(n) {
             return Err(Fault::Short);
         }
-        if n > 0 {
-            self.index = at + n;
-            self.peeked = false;
-        }
-        Ok(Taken::Lent(at))
+        let place = self.index;
+        self.advance(n);
+        Ok(Taken::Lent(place))
     }
 
     fn kept(&self, place: usize) -> Option<u8> {
-        if place < self.index {
-            Some(self.slice[place])
-        } else {
-            None
+        if place >= self.index {
+            return None;
         }
+        Some(self.slice[place])
     }
 
     fn lends(&self) -> bool {

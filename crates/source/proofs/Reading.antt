@@ -2,7 +2,7 @@
 use mathlib.Core.Path.{_≡_, refl, sym, ap, subst, _∙_}
 use mathlib.Core.Bool.{Bool, true, false, cond}
 use mathlib.Core.List.{List, [], _∷_, _++_, append-assoc, append-nil}
-use Prim.Native.Nat.{ℕ, zero, suc, min, _+_, _-_, _≤_, _<_}
+use Prim.Native.Nat.{ℕ, min, _+_, _-_, _≤_, _<_}
 use native.Mathlib.Omega.{arith}
 use lib.Dec.{eqb, leb}
 use lib.ListN.{length, take, drop, length-drop, length-take, length-append}
@@ -14,7 +14,7 @@ use Rattle.std.proofs.shelf.Lists.{take-at, drop-at, take-all, drop-all, take-r
 use Rattle.std.specs.declared.result.Result.{Result}
 use Rattle.std.specs.declared.result.Result.the-variants.{Ok, Err}
 use Rattle.source.specs.Bytes.{Octets}
-use Rattle.source.specs.Feed.{Feed, after, fronted, told, Portion, ReadBy, Read, Fill, portioned}
+use Rattle.source.specs.Feed.{Feed, after, fronted, told, Portion, Read, Fill, portioned}
 use Rattle.source.specs.Sound.{octets-drop}
 
 -- a portion of n bytes came
@@ -147,21 +147,6 @@ given xs buf buf′ e n some room there put =
       there = there;
       left = ap (λ l. record { bytes = l; ending = e }) (take-rest xs n);
       put = put ∙ ap (λ k. take n xs ++ drop k buf) (sym long) })
-
-nothing-given : (a b : Bool) (f g : Feed) (buf buf′ : List ℕ) → f .ending ≡ 0 → (a ≡ false → b ≡ true) → g ≡ f → buf′ ≡ buf → ReadBy a b f buf (Ok 0) g buf′
-nothing-given true b f g buf buf′ clean over left put = (refl, left, put)
-nothing-given false true f g buf buf′ clean over left put = (rw clean refl, left, put)
-nothing-given false false f g buf buf′ clean over left put = let z : _≡_ {A = Bool} false true = over refl in let y : _≡_ {A = ℕ} 0 1 = cc in absurd (omega arith)
-
--- a slice gives all that fits
-pub all-given : (xs buf buf′ : List ℕ) (n : ℕ) → n ≡ min (length buf) (length xs) → buf′ ≡ take n xs ++ drop n buf →
-    Read (record { bytes = xs; ending = 0 }) buf (Ok n) (record { bytes = take (length xs - n) (drop n xs); ending = 0 }) buf′
-all-given xs buf buf′ zero e put =
-    nothing-given (eqb (length buf) 0) (eqb (length xs) 0) _ _ buf buf′ refl (λ h. grind (arith, tells)) (ap (λ l. record { bytes = l; ending = 0 }) (take-rest xs 0)) put
-all-given xs buf buf′ (suc n) e put = given xs buf buf′ 0 (suc n) (omega arith) (omega arith) (omega arith) put
-
-pub all-portioned : (xs : List ℕ) (room n : ℕ) → n ≡ min room (length xs) → Ok n ≡ portioned (length xs) (record { bytes = xs; ending = 0 }) room
-all-portioned xs room n e = grind (arith, tells)
 
 pub some-portioned : (most : ℕ) (f : Feed) (room n : ℕ) → 0 < room → 0 < length (f .bytes) → n ≡ min most (min room (length (f .bytes))) → Ok n ≡ portioned most f room
 some-portioned most f room n a b e = grind (arith, tells)

@@ -5,6 +5,8 @@ use mathlib.Core.List.{List, [], _++_}
 use Prim.Native.Nat.{ℕ, min, _<_, _≤_}
 use lib.Dec.{leb, eqb}
 use lib.ListN.{length, take, drop}
+use Rattle.std.specs.declared.option.Option.{Option}
+use Rattle.std.specs.declared.option.Option.the-variants.{Some, None}
 use Rattle.std.specs.declared.result.Result.{Result}
 use Rattle.std.specs.declared.result.Result.the-variants.{Ok, Err}
 use Rattle.source.specs.Bytes.{Octets}
@@ -65,3 +67,10 @@ Fill f buf r g buf′ = FillBy (leb (length buf) (length (f .bytes))) f buf r g 
 -- A clean end of the first leads on to the second; a fault of the first ends the chain.
 abbrev pub chained : Feed → Feed → Feed
 chained f g = record { bytes = f .bytes ++ cond (eqb (f .ending) 0) (g .bytes) []; ending = cond (eqb (f .ending) 0) (g .ending) (f .ending) }
+
+-- A read of a chain's first source: a portion or a fault is the chain's own, and where the first
+-- has come to its clean end, a read of the second is a read of the chain.
+abbrev pub First : Feed → Feed → List ℕ → Result (Option ℕ) ℕ → Feed → List ℕ → Type 0
+First f g buf (Ok (Some n)) f1 buf1 = Read (chained f g) buf (Ok n) (chained f1 g) buf1
+First f g buf (Ok None) f1 buf1 = (r : Result ℕ ℕ) (g1 : Feed) (buf2 : List ℕ) → Read g buf1 r g1 buf2 → Read (chained f g) buf r (chained f1 g1) buf2
+First f g buf (Err e) f1 buf1 = Read (chained f g) buf (Err e) (chained f1 g) buf1

@@ -1,6 +1,7 @@
 ghost use mathlib.Core.Path.{_≡_};
+ghost use Prim.Native.Nat.{_<_};
 ghost use lib.ListN.{length};
-ghost use Rattle.source.specs.Feed.{Read, chained};
+ghost use Rattle.source.specs.Feed.{chained, First};
 ghost use Rattle.source.specs.Sound.{chain-sound};
 use super::Source;
 
@@ -18,6 +19,16 @@ impl<P: Source, Q: Source> Chain<P, Q> {
     {
         Chain { first, second }
     }
+
+    // Reads in the first source. Nothing is given where it has come to a clean end.
+    fn read_first(&mut self, buf: &mut [u8]) -> Result<Option<usize>, u16>
+        requires { ⌜ 0 < length (now buf) ⌝ }
+        ensures reads { λ r. ⌜ First (P·Source .feed (now (self .entry) .first)) (Q·Source .feed (now (self .entry) .second)) (now (buf .entry)) r (P·Source .feed (now (self .exit) .first)) (now (buf .exit)) ⌝ }
+        ensures same { λ r. ⌜ now (self .exit) .second ≡ now (self .entry) .second ⌝ }
+    {
+        let n = self.first.read(buf)?;
+        Ok(if n > 0 { Some(n) } else { None })
+    }
 }
 
 pub impl<P: Source, Q: Source> Source for Chain<P, Q> as ChainIsSource {
@@ -29,8 +40,7 @@ pub impl<P: Source, Q: Source> Source for Chain<P, Q> as ChainIsSource {
         if buf.is_empty() {
             return Ok(0);
         }
-        let n = self.first.read(buf)?;
-        if n > 0 {
+        if let Some(n) = self.read_first(buf)? {
             return Ok(n);
         }
         self.second.read(buf)

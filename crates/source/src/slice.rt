@@ -33,6 +33,9 @@ pub impl<'a> Source for SliceSource<'a> as SliceIsSource {
         ensures reads { λ r. ⌜ Read (record { bytes = now (self .entry) .rest .now; ending = 0 }) (now (buf .entry)) r (record { bytes = now (self .exit) .rest .now; ending = 0 }) (now (buf .exit)) ⌝ }
         ensures all { λ r. ⌜ r ≡ portioned (length (now (self .entry) .rest .now)) (record { bytes = now (self .entry) .rest .now; ending = 0 }) (length (now (buf .entry))) ⌝ }
     {
+        if buf.is_empty() || self.rest.is_empty() {
+            return Ok(0);
+        }
         let n = buf.len().min(self.rest.len());
         buf[0..n].copy_from_slice(&self.rest[0..n]);
         self.rest = &self.rest[n..];

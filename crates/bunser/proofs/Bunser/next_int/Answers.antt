@@ -26,7 +26,7 @@ signed-requires g c κs =
     let v = g .R·DeRead .view (c .args .self .now .read) in
     let w = g .R·DeRead .view (c .read-eight .last .self .read) in
     let octets = g .R·DeRead .sound (c .args .self .now .read) .octets in
-    eight-below (c .args .width) (g .R·DeRead .lends) (c .args .self .now .end) (c .bytes .result) v w (c .in-Continue-bytes .bytes) (c .from-le-bytes .result) (c .bytes .ensures) octets (c .in-Continue-bytes .ensures tt .reads) (c .from-le-bytes .ensures)
+    eight-below (c .args .width) (g .R·DeRead .lends) (c .args .self .now .end) (c .bytes .result) v w (c .in-Continue-bytes .bytes) (c .little-endian .result) (c .bytes .ensures) octets (c .in-Continue-bytes .ensures tt .reads) (c .little-endian .ensures)
 
 pub returns : need.returns
 returns g c =
@@ -36,5 +36,5 @@ returns g c =
     let fits : SFits w64 (c .signed .result) = search needs in
     let value = toZ-ofZ w64 (c .signed .result) fits ∙ c .signed .ensures in
     record {
-      reads = int-told (c .args .width) (g .R·DeRead .lends) (c .args .self .now .end) (c .bytes .result) v w (c .in-Continue-bytes .bytes) (c .from-le-bytes .result) (c .bytes .ensures) _ (h .reads) (c .from-le-bytes .ensures) value;
+      reads = int-told (c .args .width) (g .R·DeRead .lends) (c .args .self .now .end) (c .bytes .result) v w (c .in-Continue-bytes .bytes) (c .little-endian .result) (c .bytes .ensures) _ (h .reads) (c .little-endian .ensures) value;
       same = h .same }

@@ -1,10 +1,8 @@
-use mathlib.Core.Path.{_≡_, refl, sym, ap, _∙_}
-use mathlib.Core.List.{_++_}
-use lib.ListN.{take, drop}
-use native.Mathlib.Omega.{arith}
+use Prim.Native.Nat.{_<_}
+use lib.ListN.{length}
 use borrow.Author.Needs.{needs}
 use Rattle.std.proofs.shelf.Parts.{overwrites}
-use Rattle.source.proofs.Reading.{rest-octets, all-given, all-portioned}
+use Rattle.source.proofs.Reading.{rest-octets, given, some-portioned}
 use Rattle.source.proofs.slice.SliceIsSource.read.Needs as need
 
 pub ghost-self : need.ghost-self
@@ -14,6 +12,8 @@ pub returns : need.returns
 returns c =
     let xs = c .args .self .now .rest .now in
     let n = c .min-n .result in
+    let room : 0 < length (c .args .buf .now) = search needs in
+    let there : 0 < length xs = search needs in
     record {
-      reads = all-given xs _ _ n (search needs) (search (needs, overwrites));
-      all = all-portioned xs _ n (search needs) }
+      reads = given xs _ _ 0 n (search needs) (search needs) (search needs) (search (needs, overwrites));
+      all = some-portioned (length xs) (record { bytes = xs; ending = 0 }) (length (c .args .buf .now)) n room there (search needs) }
