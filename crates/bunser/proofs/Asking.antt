@@ -105,13 +105,13 @@ module _ (end : Option ℕ) (n : ℕ) (v w : View) (few : n ≤ 8) where
       let short : length (take n (v .coming)) ≤ n = rw length-take (omega arith) in
       let from : (v .count + n) - n ≡ v .count = omega arith in
       tell-eight true taken bytes g
-      ( is
+      (is
       ∙ ap (λ x. take n (drop (x .count - n) (x .kept)) ++ drop n blank) (g .left)
       ∙ ap (λ k. take n (drop k (v .kept ++ take n (v .coming))) ++ drop n blank) from
       ∙ ap (λ l. take n l ++ drop n blank) (drop-at (v .kept) (take n (v .coming)) (v .count) kept)
       ∙ ap (λ l. l ++ drop n blank) (take-all n (take n (v .coming)) short)
       ∙ ap (λ l. take n (v .coming) ++ drop n l) at
-      ∙ ap (λ l. take n (v .coming) ++ l) zeros-left )
+      ∙ ap (λ l. take n (v .coming) ++ l) zeros-left)
 
   pub copied-eight : (lends : Bool) (taken : Taken) (bytes : List ℕ) → ((p : ℕ) → taken ≡ Lent p → ⊥) → Tells (bytes-read lends end (room lends (replicate 8 0)) n v) (Ok taken) w →
       bytes ≡ put lends (fronts (asked end v (room lends (replicate 8 0)) n) n v) (replicate 8 0) → Tells (eight-read lends end n v) (Ok bytes) w
@@ -123,7 +123,7 @@ module _ (end : Option ℕ) (n : ℕ) (v w : View) (few : n ≤ 8) where
       let there = granted end v (room false (replicate 8 0)) n (g .granted-it) in
       let long : length (take n (v .coming)) ≡ n = rw length-take (omega arith) in
       tell-eight false taken bytes g
-      ( is
+      (is
       ∙ ap (λ o. put false (fronts o n v) (replicate 8 0)) (g .granted-it)
       ∙ ap (λ k. take n (v .coming) ++ drop k (replicate 8 0)) long
-      ∙ ap (λ l. take n (v .coming) ++ l) zeros-left )
+      ∙ ap (λ l. take n (v .coming) ++ l) zeros-left)

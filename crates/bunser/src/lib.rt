@@ -88,7 +88,11 @@ fn signed(width: Width, bits: u64) -> i64
         Width::W32 => (1 << 31, i32::MIN as i64),
         Width::W64 => (1 << 63, i64::MIN),
     };
-    if bits < half { bits as i64 } else { (bits - half) as i64 + least }
+    if bits < half {
+        bits as i64
+    } else {
+        (bits - half) as i64 + least
+    }
 }
 
 // The width of the integer that this tag begins.
@@ -105,7 +109,11 @@ fn int_width(tag: u8) -> Result<Width, ReadError>
 fn count_of(value: i64) -> Result<usize, ReadError>
     ensures { λ r. ⌜ r ≡ countOf value ⌝ }
 {
-    if value < 0 { Err(ReadError::Negative) } else { Ok(value as usize) }
+    if value < 0 {
+        Err(ReadError::Negative)
+    } else {
+        Ok(value as usize)
+    }
 }
 
 fn is_magic(first: u8, second: u8) -> bool
@@ -259,7 +267,11 @@ impl<R: DeRead> Bunser<R> {
         if passes(Some(FARTHEST), start, length) {
             return Err(ReadError::TooLong.at(place));
         }
-        Ok(Header { capabilities, start, length })
+        Ok(Header {
+            capabilities,
+            start,
+            length,
+        })
     }
 
     // The whole header, which stands before any declared end.

@@ -62,7 +62,10 @@ fn every_reader_gives_the_same_bytes() -> Result<(), Fail> {
     zero_to_four(&mut Fence::new(SliceRead::new(&bytes), 6))?;
     for most in 0..7 {
         zero_to_four(&mut IoRead::new(PieceSource::new(&bytes, most, 0)))?;
-        let chain = Chain::new(SliceSource::new(&bytes[0..2]), PieceSource::new(&bytes[2..], most, 0));
+        let chain = Chain::new(
+            SliceSource::new(&bytes[0..2]),
+            PieceSource::new(&bytes[2..], most, 0),
+        );
         zero_to_four(&mut Fence::new(IoRead::new(chain), 6))?;
     }
     Ok(())
@@ -79,7 +82,9 @@ fn a_buffer_may_be_just_full() -> Result<(), Fail> {
     check_eq(buf, *b"abc")?;
     check_eq(r.next(), Ok(0x64))?;
     let mut lent = SliceRead::new(b"abcd");
-    check_eq(lent.next_bytes(4, &mut []), Ok(Taken::Lent(0))).note("a reader that lends needs no room")
+    check_eq(lent.next_bytes(4, &mut []), Ok(Taken::Lent(0))).note(
+        "a reader that lends needs no room",
+    )
 }
 
 // A fence at 3 over five bytes: its stop is reached exactly and not passed.
@@ -112,8 +117,14 @@ fn a_stop_may_be_reached_and_not_passed() -> Result<(), Fail> {
 #[test]
 fn the_stop_of_a_source_reader_is_asked_first() -> Result<(), Fail> {
     let mut r = IoRead::new(SliceSource::new(b""));
-    check_eq(r.next_bytes(1_152_921_504_606_846_993, &mut []), Err(Fault::Stop))?;
-    check_eq(r.next_bytes(1_152_921_504_606_846_992, &mut []), Err(Fault::Room))?;
+    check_eq(
+        r.next_bytes(1_152_921_504_606_846_993, &mut []),
+        Err(Fault::Stop),
+    )?;
+    check_eq(
+        r.next_bytes(1_152_921_504_606_846_992, &mut []),
+        Err(Fault::Room),
+    )?;
     check_eq(r.next_bytes(0, &mut []), Ok(Taken::Copied))
 }
 

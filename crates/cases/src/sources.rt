@@ -9,7 +9,11 @@ use source::slice::SliceSource;
 use std::test::*;
 
 // One read into a buffer of four bytes, each 0xee before: the answer, and the buffer then.
-fn read_four<S: Source>(source: &mut S, answer: Result<usize, u16>, after: [u8; 4]) -> Result<(), Fail> {
+fn read_four<S: Source>(
+    source: &mut S,
+    answer: Result<usize, u16>,
+    after: [u8; 4],
+) -> Result<(), Fail> {
     let mut buf = [0xee; 4];
     check_eq(source.read(&mut buf), answer)?;
     check_eq(buf, after)
@@ -81,7 +85,9 @@ fn every_piece_size_fills_alike() -> Result<(), Fail> {
         check_eq(read_exact(&mut piece, &mut buf), Ok(()))?;
         check_eq(buf, *b"0123456")?;
         let mut rest = [0xee; 5];
-        check_eq(read_exact(&mut piece, &mut rest), Err(3)).note("three bytes are left of the five")?;
+        check_eq(read_exact(&mut piece, &mut rest), Err(3)).note(
+            "three bytes are left of the five",
+        )?;
         check_eq(rest, [0x37, 0x38, 0x39, 0xee, 0xee])?;
     }
     Ok(())

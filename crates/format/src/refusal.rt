@@ -138,6 +138,9 @@ impl ReadError {
     pub fn at(self, place: usize) -> Refusal
         ensures { λ r. ⌜ r ≡ record { place = place; cause = Read self } ⌝ }
     {
-        Refusal { place, cause: Cause::Read(self) }
+        Refusal {
+            place,
+            cause: Cause::Read(self),
+        }
     }
 }

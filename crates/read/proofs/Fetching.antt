@@ -51,10 +51,11 @@ module _ (f g : Feed) where
       let less : suc (length ps) - 1 ≡ length ps = omega arith in
       let k = filled f g ps end (subst (λ l. Fill f l (Ok tt) g end) (take-all _ ps all) h) in
       let there = k .there in
-      rw (le-ltb (suc (length (f .bytes))) (suc (length ps)) (omega arith))
-      ( refl
-      , k .left ∙ ap (λ m. after m f) (sym less)
-      , ap (λ l. b ∷ l) (ap (λ l. end ++ l) (drop-all _ ps all) ∙ append-nil end ∙ k .full) )
+      rw (le-ltb (suc (length (f .bytes))) (suc (length ps)) (omega arith)) (
+        refl,
+        k .left ∙ ap (λ m. after m f) (sym less),
+        ap (λ l. b ∷ l) (ap (λ l. end ++ l) (drop-all _ ps all) ∙ append-nil end ∙ k .full),
+      )
 
 -- ---- bytes for a caller of the reader: `m` is `n`, as the code has it
 
@@ -80,12 +81,13 @@ module _ (f g : Feed) (o p : Option ℕ) (held : o ≡ p) (k m n : ℕ) (buf par
           let all : length (take n (ahead o ++ f .bytes)) ≡ n = rw length-take (omega arith) in
           let left : g ≡ after (n - length (ahead o)) f = h .1 ∙ ap (λ l. after (l - length (ahead o)) f) long in
           let put : part ≡ take n (ahead o ++ f .bytes) = h .2 ∙ ap (λ l. take l (ahead o ++ f .bytes)) long in
-          rw (unstopped, le-ltb (length buf) n fits, le-ltb (length (ahead o ++ f .bytes)) n there)
-          ( refl
-          , ap (λ x. io-view x None (k + n)) left
-            ∙ ap (λ l. record { coming = l; ending = f .ending; count = k + n; stop = Some 1152921504606846992; peeked = false; kept = [] }) (behind-held o f n some)
-            ∙ ap (λ b. record { coming = drop n (ahead o ++ f .bytes); ending = f .ending; count = k + n; stop = Some 1152921504606846992; peeked = b; kept = [] }) (sym (ap (λ b. cond b (isSome o) false) (ne-eqb n 0 some)))
-          , ap (λ l. l ++ drop m buf) put ∙ ap (λ l. take n (ahead o ++ f .bytes) ++ drop l buf) (same ∙ sym all) )
+          rw (unstopped, le-ltb (length buf) n fits, le-ltb (length (ahead o ++ f .bytes)) n there) (
+            refl,
+            ap (λ x. io-view x None (k + n)) left
+                ∙ ap (λ l. record { coming = l; ending = f .ending; count = k + n; stop = Some 1152921504606846992; peeked = false; kept = [] }) (behind-held o f n some)
+                ∙ ap (λ b. record { coming = drop n (ahead o ++ f .bytes); ending = f .ending; count = k + n; stop = Some 1152921504606846992; peeked = b; kept = [] }) (sym (ap (λ b. cond b (isSome o) false) (ne-eqb n 0 some))),
+            ap (λ l. l ++ drop m buf) put ∙ ap (λ l. take n (ahead o ++ f .bytes) ++ drop l buf) (same ∙ sym all),
+          )
 
   spent : Spent (io-view f o k) (io-view (after (length (f .bytes)) f) o k)
   spent = record { lost = length (f .bytes); coming = lose o; ending = refl; count = refl; stop = refl; peeked = refl; kept = refl }

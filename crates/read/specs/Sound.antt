@@ -11,7 +11,7 @@ use Rattle.std.specs.Options.{isSome}
 use Rattle.std.specs.declared.option.Option.{Option}
 use Rattle.std.specs.declared.option.Option.the-variants.{Some, None}
 use Rattle.source.specs.Bytes.{Octets}
-use Rattle.source.specs.Feed.{Feed} 
+use Rattle.source.specs.Feed.{Feed}
 use Rattle.source.specs.Feed as feed
 use Rattle.source.specs.Sound.{octets-none, octets-drop, octets-take, octets-append}
 use Rattle.read.specs.Reader.{View, Sound, fenced}
@@ -27,7 +27,8 @@ slice-sound xs i p octets within there = record {
   kept-octets = octets-take i xs octets;
   kept-all = rw length-take (omega arith);
   held-there = λ e. let h = there e in rw length-drop (omega arith);
-  coded = lit< tt }
+  coded = lit< tt;
+}
 
 -- a source, with a byte held back or none
 abbrev pub io-view : Feed → Option ℕ → ℕ → View
@@ -43,7 +44,8 @@ io-sound f o n sound octet = record {
   kept-octets = octets-none;
   kept-all = refl;
   held-there = held-first o (f .bytes);
-  coded = sound .coded }
+  coded = sound .coded;
+}
 
 pub fence-sound : (lends : Bool) (n : ℕ) (v : View) → Sound lends v → Sound lends (fenced n v)
 fence-sound lends n v h = record { octets = h .octets; kept-octets = h .kept-octets; kept-all = h .kept-all; held-there = h .held-there; coded = h .coded }

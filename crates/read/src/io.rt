@@ -30,7 +30,11 @@ pub struct IoRead<S: Source> {
 fn short_by(ending: u16) -> Fault
     ensures { λ r. ⌜ r ≡ shortfall ending ⌝ }
 {
-    if ending == 0 { Fault::Short } else { Fault::Source(ending) }
+    if ending == 0 {
+        Fault::Short
+    } else {
+        Fault::Source(ending)
+    }
 }
 
 // The source's next byte.
@@ -79,7 +83,11 @@ impl<S: Source> IoRead<S> {
     pub fn new(source: S) -> IoRead<S>
         ensures { λ r. ⌜ (r .source ≡ source) × (r .«read_count» ≡ 0) × (r .peeked ≡ None) ⌝ }
     {
-        IoRead { source, read_count: 0, peeked: None }
+        IoRead {
+            source,
+            read_count: 0,
+            peeked: None,
+        }
     }
 }
 

@@ -28,7 +28,11 @@ impl<'a> SliceRead<'a> {
     {
         // A slice that is handed on is known to hold bytes, each below 256.
         let _ = slice.first();
-        SliceRead { slice, index: 0, peeked: false }
+        SliceRead {
+            slice,
+            index: 0,
+            peeked: false,
+        }
     }
 
     // Whether fewer than n bytes are to come. A slice that is too short loses none of them.

@@ -86,19 +86,19 @@ module _ (f f1 : Feed) (old buf : List ℕ) (at : ℕ) (i : Filling f old at f1 
       let enough = i .enough in
       let long : length (take n (drop at (f .bytes))) ≡ n = simp length-take (omega arith) in
       let put : part ≡ take n (drop at (f .bytes)) ++ drop n (drop at old) =
-        h .put
-        ∙ ap (λ l. fronted (take n l) (take (length buf - at) (drop at buf))) came-from
-        ∙ ap (fronted (take n (drop at (f .bytes)))) wanted
-        ∙ ap (λ k. take n (drop at (f .bytes)) ++ drop k (drop at old)) long in
+      h .put
+      ∙ ap (λ l. fronted (take n l) (take (length buf - at) (drop at buf))) came-from
+      ∙ ap (fronted (take n (drop at (f .bytes)))) wanted
+      ∙ ap (λ k. take n (drop at (f .bytes)) ++ drop k (drop at old)) long in
       record {
         within = let a : n ≤ length old - at = subst (λ k. n ≤ k) (length-drop at old) room in omega arith;
         enough = let a : n ≤ length (f .bytes) - at = subst (λ k. n ≤ k) (length-drop at (f .bytes)) there in omega arith;
         left = h .left ∙ ap (after n) (i .left) ∙ ap (λ l. record { bytes = l; ending = f .ending }) (drop-drop n at (f .bytes));
         front = back part
-          ∙ ap (λ l. take at (f .bytes) ++ l) put
-          ∙ sym (append-assoc (take at (f .bytes)) (take n (drop at (f .bytes))) (drop n (drop at old)))
-          ∙ ap (λ l. l ++ drop n (drop at old)) (sym (take-add at n (f .bytes)))
-          ∙ ap (λ l. take (at + n) (f .bytes) ++ l) (drop-drop n at old);
+            ∙ ap (λ l. take at (f .bytes) ++ l) put
+            ∙ sym (append-assoc (take at (f .bytes)) (take n (drop at (f .bytes))) (drop n (drop at old)))
+            ∙ ap (λ l. l ++ drop n (drop at old)) (sym (take-add at n (f .bytes)))
+            ∙ ap (λ l. take (at + n) (f .bytes) ++ l) (drop-drop n at old);
       }
 
   pub filled : length buf ≤ at → length buf ≡ length old → Fill f old (Ok tt) f1 buf
@@ -108,10 +108,11 @@ module _ (f f1 : Feed) (old buf : List ℕ) (at : ℕ) (i : Filling f old at f1 
       let here : at ≡ length old = omega arith in
       let whole : length old ≤ length (f .bytes) = omega arith in
       let past : length old ≤ at = omega arith in
-      rw (le-leb (length old) (length (f .bytes)) whole)
-      ( refl
-      , i .left ∙ ap (λ n. after n f) here
-      , i .front ∙ ap (λ l. take at (f .bytes) ++ l) (drop-all at old past) ∙ append-nil (take at (f .bytes)) ∙ ap (λ n. take n (f .bytes)) here )
+      rw (le-leb (length old) (length (f .bytes)) whole) (
+        refl,
+        i .left ∙ ap (λ n. after n f) here,
+        i .front ∙ ap (λ l. take at (f .bytes) ++ l) (drop-all at old past) ∙ append-nil (take at (f .bytes)) ∙ ap (λ n. take n (f .bytes)) here,
+      )
 
   pub ran-out : at < length buf → length buf ≡ length old → (r : Result ℕ ℕ) (g : Feed) (part : List ℕ) (e : ℕ) → e ≡ f .ending → Ended f1 (take (length buf - at) (drop at buf)) r g part →
       Fill f old (Err e) g (putMid at (length buf - at) buf part)
@@ -122,10 +123,11 @@ module _ (f f1 : Feed) (old buf : List ℕ) (at : ℕ) (i : Filling f old at f1 
       let here : at ≡ length (f .bytes) = omega arith in
       let short : length (f .bytes) < length old = omega arith in
       let whole : length (f .bytes) ≤ at = omega arith in
-      rw (lt-leb (length old) (length (f .bytes)) short)
-      ( ap Err told-by
-      , h .left ∙ i .left ∙ ap (λ n. after n f) here
-      , back part ∙ ap (λ l. take at (f .bytes) ++ l) (h .stays ∙ wanted) ∙ ap (λ l. l ++ drop at old) (take-all at (f .bytes) whole) ∙ ap (λ n. f .bytes ++ drop n old) here )
+      rw (lt-leb (length old) (length (f .bytes)) short) (
+        ap Err told-by,
+        h .left ∙ i .left ∙ ap (λ n. after n f) here,
+        back part ∙ ap (λ l. take at (f .bytes) ++ l) (h .stays ∙ wanted) ∙ ap (λ l. l ++ drop at old) (take-all at (f .bytes) whole) ∙ ap (λ n. f .bytes ++ drop n old) here,
+      )
 
   pub same-ending : f1 .ending ≡ f .ending
   same-ending = ap (λ x. x .ending) (i .left)
@@ -146,7 +148,8 @@ given xs buf buf′ e n some room there put =
       room = room;
       there = there;
       left = ap (λ l. record { bytes = l; ending = e }) (take-rest xs n);
-      put = put ∙ ap (λ k. take n xs ++ drop k buf) (sym long) })
+      put = put ∙ ap (λ k. take n xs ++ drop k buf) (sym long);
+    })
 
 pub some-portioned : (most : ℕ) (f : Feed) (room n : ℕ) → 0 < room → 0 < length (f .bytes) → n ≡ min most (min room (length (f .bytes))) → Ok n ≡ portioned most f room
 some-portioned most f room n a b e = grind (arith, tells)

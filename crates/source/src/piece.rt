@@ -23,7 +23,11 @@ impl<'a> PieceSource<'a> {
     {
         // A slice that is handed on is known to hold bytes, each below 256.
         let _ = slice.first();
-        PieceSource { rest: slice, most, ending }
+        PieceSource {
+            rest: slice,
+            most,
+            ending,
+        }
     }
 }
 

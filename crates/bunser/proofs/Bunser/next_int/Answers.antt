@@ -19,7 +19,8 @@ returns-in-Break-bytes g c =
     let w = g .R·DeRead .view (c .read-eight .last .self .read) in
     record {
       reads = int-stop (c .args .width) (g .R·DeRead .lends) (c .args .self .now .end) (c .bytes .result) v w [] 0 (c .bytes .ensures) _ (c .from-residual .result) (h .reads) (c .from-residual .ensures .1);
-      same = h .same }
+      same = h .same;
+    }
 
 pub signed-requires : need.signed-requires
 signed-requires g c κs =
@@ -37,4 +38,5 @@ returns g c =
     let value = toZ-ofZ w64 (c .signed .result) fits ∙ c .signed .ensures in
     record {
       reads = int-told (c .args .width) (g .R·DeRead .lends) (c .args .self .now .end) (c .bytes .result) v w (c .in-Continue-bytes .bytes) (c .little-endian .result) (c .bytes .ensures) _ (h .reads) (c .little-endian .ensures) value;
-      same = h .same }
+      same = h .same;
+    }

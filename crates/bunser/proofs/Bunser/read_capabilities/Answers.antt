@@ -10,7 +10,8 @@ returns-in-Break-bytes g c =
     let h = c .read-eight .ensures in
     record {
       reads = capabilities-stop (g .R·DeRead .lends) (c .args .self .now .end) v w (c .read-count-place .result) (c .read-count-place .ensures) (c .read-eight .result) (h .reads) _ (c .from-residual .result) (c .in-Break-bytes .ensures tt) (c .from-residual .ensures .1);
-      same = h .same }
+      same = h .same;
+    }
 
 pub cast-result : need.cast-result
 cast-result g c =
@@ -18,7 +19,7 @@ cast-result g c =
     let w = g .R·DeRead .view (c .read-eight .last .self .read) in
     let octets = g .R·DeRead .sound (c .args .self .now .read) .octets in
     let small = capabilities-below (g .R·DeRead .lends) (c .args .self .now .end) v w (c .read-count-place .result) (c .read-count-place .ensures) (c .read-eight .result) (c .read-eight .ensures .reads) (c .in-Continue-bytes .bytes)
-      (c .in-Continue-bytes .ensures tt) (c .little-endian .result) (c .little-endian .ensures) octets in
+    (c .in-Continue-bytes .ensures tt) (c .little-endian .result) (c .little-endian .ensures) octets in
     omega (arith, small)
 
 pub returns : need.returns
@@ -28,5 +29,6 @@ returns g c =
     let h = c .read-eight .ensures in
     record {
       reads = capabilities-told (g .R·DeRead .lends) (c .args .self .now .end) v w (c .read-count-place .result) (c .read-count-place .ensures) (c .read-eight .result) (h .reads) (c .in-Continue-bytes .bytes)
-        (c .in-Continue-bytes .ensures tt) (c .little-endian .result) (c .little-endian .ensures);
-      same = h .same }
+          (c .in-Continue-bytes .ensures tt) (c .little-endian .result) (c .little-endian .ensures);
+      same = h .same;
+    }

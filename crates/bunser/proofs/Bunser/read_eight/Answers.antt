@@ -9,7 +9,8 @@ returns-in-Break-taken g c =
     let w = g .R·DeRead .view (c .read-bytes .last .self .read) in
     record {
       reads = eight-stop (c .args .self .now .end) (c .args .n) v w (c .pre) (g .R·DeRead .lends) _ (c .from-residual .result) (h .reads) (c .from-residual .ensures .1);
-      same = h .same }
+      same = h .same;
+    }
 
 pub copy-last-requires : need.copy-last-requires
 copy-last-requires g c κs =
@@ -27,8 +28,9 @@ returns-in-Lent g c =
     let kept = g .R·DeRead .sound (c .args .self .now .read) .kept-all in
     record {
       reads = lent-eight (c .args .self .now .end) (c .args .n) v w (c .pre) (g .R·DeRead .lends) (c .in-Continue-taken .taken) (c .in-Lent .field-0) (c .read-bytes .last .buf) (c .copy-last .last .bytes)
-        (c .in-Lent .is) kept (h .reads) (h .puts) (c .copy-last .ensures);
-      same = h .same }
+          (c .in-Lent .is) kept (h .reads) (h .puts) (c .copy-last .ensures);
+      same = h .same;
+    }
 
 pub returns-in-rest : need.returns-in-rest
 returns-in-rest g c =
@@ -37,4 +39,5 @@ returns-in-rest g c =
     let w = g .R·DeRead .view (c .read-bytes .last .self .read) in
     record {
       reads = copied-eight (c .args .self .now .end) (c .args .n) v w (c .pre) (g .R·DeRead .lends) (c .in-Continue-taken .taken) (c .read-bytes .last .buf) (c .in-rest .not-Lent) (h .reads) (h .puts);
-      same = h .same }
+      same = h .same;
+    }

@@ -11,7 +11,8 @@ returns-in-Break-read-magic g c =
     record {
       reads = header-stop (g .R·DeRead .lends) v (c .args .self .now .end) (c .pre) w _ (c .from-residual .result) (h .reads) (c .from-residual .ensures .1);
       bounds = made-from-err _ _ (c .from-residual .ensures .0);
-      same = h .same ∙ c .pre }
+      same = h .same ∙ c .pre;
+    }
 
 pub returns-in-Break-capabilities : need.returns-in-Break-capabilities
 returns-in-Break-capabilities g c =
@@ -24,7 +25,8 @@ returns-in-Break-capabilities g c =
     record {
       reads = header-stop-capabilities (g .R·DeRead .lends) v w (c .args .self .now .end) (c .pre) (first .reads) (c .read-magic .last .self .end) (first .same ∙ c .pre) u _ (s .result) (h .reads) (s .ensures .1);
       bounds = made-from-err _ _ (s .ensures .0);
-      same = h .same ∙ first .same ∙ c .pre }
+      same = h .same ∙ first .same ∙ c .pre;
+    }
 
 pub returns : need.returns
 returns g c =
@@ -38,4 +40,5 @@ returns g c =
     record {
       reads = header-told (g .R·DeRead .lends) v w (c .args .self .now .end) (c .pre) (first .reads) (c .read-magic .last .self .end) (first .same ∙ c .pre) u (c .in-Continue-capabilities .capabilities) (c .read-capabilities .last .self .end) (second .same) (second .reads) (c .read-length .result) x (third .reads);
       bounds = length-sum (g .R·DeRead .lends) (c .read-capabilities .last .self .end) (c .in-Continue-capabilities .capabilities) u (c .read-length .result) x (third .reads);
-      same = third .same ∙ second .same ∙ first .same ∙ c .pre }
+      same = third .same ∙ second .same ∙ first .same ∙ c .pre;
+    }

@@ -9,7 +9,8 @@ returns-in-Break-length g c =
     let h = c .next-count .ensures in
     record {
       reads = length-stop (g .R·DeRead .lends) (c .args .self .now .end) v w (c .read-count-place .result) (c .read-count-place .ensures) (c .args .capabilities) (c .next-count .result) (h .reads) _ (c .from-residual .result) (c .in-Break-length .ensures tt) (c .from-residual .ensures .1);
-      same = h .same }
+      same = h .same;
+    }
 
 pub returns-then-passes : need.returns-then-passes
 returns-then-passes g c =
@@ -18,8 +19,9 @@ returns-then-passes g c =
     let h = c .next-count .ensures in
     record {
       reads = length-far (g .R·DeRead .lends) (c .args .self .now .end) v w (c .read-count-place .result) (c .read-count-place .ensures) (c .args .capabilities) (c .next-count .result) (h .reads) (c .in-Continue-length .length)
-        (c .in-Continue-length .ensures tt) (c .read-count-start .result) (c .read-count-start .ensures) (c .at .result) (sym (c .passes .ensures) ∙ c .if-passes .taken) (c .at .ensures);
-      same = h .same }
+          (c .in-Continue-length .ensures tt) (c .read-count-start .result) (c .read-count-start .ensures) (c .at .result) (sym (c .passes .ensures) ∙ c .if-passes .taken) (c .at .ensures);
+      same = h .same;
+    }
 
 pub returns : need.returns
 returns g c =
@@ -28,5 +30,6 @@ returns g c =
     let h = c .next-count .ensures in
     record {
       reads = length-near (g .R·DeRead .lends) (c .args .self .now .end) v w (c .read-count-place .result) (c .read-count-place .ensures) (c .args .capabilities) (c .next-count .result) (h .reads) (c .in-Continue-length .length)
-        (c .in-Continue-length .ensures tt) (c .read-count-start .result) (c .read-count-start .ensures) (sym (c .passes .ensures) ∙ c .if-passes .left);
-      same = h .same }
+          (c .in-Continue-length .ensures tt) (c .read-count-start .result) (c .read-count-start .ensures) (sym (c .passes .ensures) ∙ c .if-passes .left);
+      same = h .same;
+    }

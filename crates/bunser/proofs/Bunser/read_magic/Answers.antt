@@ -9,7 +9,8 @@ returns-in-Break-bytes g c =
     let h = c .read-eight .ensures in
     record {
       reads = magic-stop (g .R·DeRead .lends) (c .args .self .now .end) v w (c .read-count-place .result) (c .read-count-place .ensures) (c .read-eight .result) (h .reads) _ (c .from-residual .result) (c .in-Break-bytes .ensures tt) (c .from-residual .ensures .1);
-      same = h .same }
+      same = h .same;
+    }
 
 pub returns-then-not-is-magic : need.returns-then-not-is-magic
 returns-then-not-is-magic g c =
@@ -18,8 +19,9 @@ returns-then-not-is-magic g c =
     let h = c .read-eight .ensures in
     record {
       reads = magic-wrong (g .R·DeRead .lends) (c .args .self .now .end) v w (c .read-count-place .result) (c .read-count-place .ensures) (c .read-eight .result) (h .reads) (c .in-Continue-bytes .bytes) (c .at .result)
-        (c .in-Continue-bytes .ensures tt) (sym (c .if-not-is-magic .ensures tt)) (c .at .ensures);
-      same = h .same }
+          (c .in-Continue-bytes .ensures tt) (sym (c .if-not-is-magic .ensures tt)) (c .at .ensures);
+      same = h .same;
+    }
 
 pub returns : need.returns
 returns g c =
@@ -28,5 +30,6 @@ returns g c =
     let h = c .read-eight .ensures in
     record {
       reads = magic-right (g .R·DeRead .lends) (c .args .self .now .end) v w (c .read-count-place .result) (c .read-count-place .ensures) (c .read-eight .result) (h .reads) (c .in-Continue-bytes .bytes)
-        (c .in-Continue-bytes .ensures tt) (sym (c .if-not-is-magic .ensures tt));
-      same = h .same }
+          (c .in-Continue-bytes .ensures tt) (sym (c .if-not-is-magic .ensures tt));
+      same = h .same;
+    }

@@ -28,9 +28,10 @@ returns g c =
     let me = c .args .self .now in
     let same : c .args .n - 0 ≡ c .args .n = omega arith in
     elim (c .match-self .came) [
-      in-Some·in-Continue-fetch-behind w ↦
-        simp (w .self-is, w .buf-is)
-        (copied _ _ (me .peeked) (Some (w .in-Some .held)) (w .in-Some .is) (me .«read_count») _ _ _ _ same (c .if-n-self .left) (omega (arith, me .before)) (c .if-n-buf .left) (c .if-n-eq0 .left) (w .in-Continue-fetch-behind .ensures tt))
-    | in-None·in-Continue-fetch w ↦
-        simp (w .self-is, w .buf-is)
-        (copied _ _ (me .peeked) None (w .in-None .is) (me .«read_count») _ _ _ _ same (c .if-n-self .left) (omega (arith, me .before)) (c .if-n-buf .left) (c .if-n-eq0 .left) (w .in-Continue-fetch .ensures tt)) ]
+      | in-Some·in-Continue-fetch-behind w ↦
+          simp (w .self-is, w .buf-is)
+          (copied _ _ (me .peeked) (Some (w .in-Some .held)) (w .in-Some .is) (me .«read_count») _ _ _ _ same (c .if-n-self .left) (omega (arith, me .before)) (c .if-n-buf .left) (c .if-n-eq0 .left) (w .in-Continue-fetch-behind .ensures tt))
+      | in-None·in-Continue-fetch w ↦
+          simp (w .self-is, w .buf-is)
+          (copied _ _ (me .peeked) None (w .in-None .is) (me .«read_count») _ _ _ _ same (c .if-n-self .left) (omega (arith, me .before)) (c .if-n-buf .left) (c .if-n-eq0 .left) (w .in-Continue-fetch .ensures tt))
+    ]

@@ -14,4 +14,5 @@ returns c =
     record {
       value = ap (λ k. ltb k (c .args .n)) (sym (length-drop (me .index) (me .slice .now)));
       there = λ e. omega (arith, ltb-false _ _ e, within);
-      spent = nothing-lost (slice-view (me .slice .now) (me .index) (me .peeked)) }
+      spent = nothing-lost (slice-view (me .slice .now) (me .index) (me .peeked));
+    }

@@ -10,4 +10,5 @@ pub returns-else-n-gt0 : need.returns-else-n-gt0
 returns-else-n-gt0 g c =
     record {
       reads = λ r g1 buf2 h. chain-second _ _ _ g1 _ _ buf2 r (over _ _ _ _ _ _ (c .in-Continue-n .ensures tt) (c .pre) (omega arith)) h;
-      same = refl }
+      same = refl;
+    }

@@ -19,4 +19,5 @@ returns c =
     record {
       reads = given xs _ _ _ n (search needs) (search needs) (search needs) (search (needs, overwrites));
       few = some-portioned _ _ _ n room there (search needs);
-      same = refl }
+      same = refl;
+    }

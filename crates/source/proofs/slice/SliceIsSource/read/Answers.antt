@@ -16,4 +16,5 @@ returns c =
     let there : 0 < length xs = search needs in
     record {
       reads = given xs _ _ 0 n (search needs) (search needs) (search needs) (search (needs, overwrites));
-      all = some-portioned (length xs) (record { bytes = xs; ending = 0 }) (length (c .args .buf .now)) n room there (search needs) }
+      all = some-portioned (length xs) (record { bytes = xs; ending = 0 }) (length (c .args .buf .now)) n room there (search needs);
+    }
