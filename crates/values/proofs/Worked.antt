@@ -7,6 +7,7 @@ use Rattle.std.proofs.shelf.Tests.{false≢true}
 use Rattle.utf8.specs.Utf8.{utf8}
 use Rattle.values.specs.Values.{count-encoding}
 use Rattle.values.specs.Examples.{Examples}
+use Rattle.values.specs.Watchman.{Watchman}
 
 pub examples : Examples
 unfolding count-encoding utf8
@@ -30,3 +31,7 @@ examples = record {
   overlong-formed = (lit< tt, (lit< tt, (lit< tt, tt)));
   overlong-no-text = λ h. false≢true (h .1);
 }
+
+pub watchman : Watchman
+unfolding count-encoding utf8
+watchman = record { kinds-bytes = refl; kinds-events = refl; kinds-formed = (lit< tt, (lit< tt, (tt, (tt, (tt, (lit< tt, (lit< tt, (lit< tt, (lit< tt, ((lit< tt, (lit< tt, (lit< tt, tt))), ((lit< tt, (lit< tt, (lit< tt, tt))), ((lit< tt, tt), ((lit< tt, (((lit< tt, (lit< tt, tt)), refl), (lit< tt, (lit< tt, tt)), tt)), tt))))))))))))) }

@@ -1,3 +1,4 @@
 pub mod Values
 pub mod Limits
 pub mod Examples
+pub mod Watchman
