@@ -128,6 +128,14 @@ fn the_stop_of_a_source_reader_is_asked_first() -> Result<(), Fail> {
     check_eq(r.next_bytes(0, &mut []), Ok(Taken::Copied))
 }
 
+#[test]
+fn the_longest_request_of_a_slice_is_short() -> Result<(), Fail> {
+    let mut r = SliceRead::new(b"\x0a\x08");
+    check_eq(r.next(), Ok(0x0a))?;
+    check_eq(r.next_bytes(usize::MAX, &mut []), Err(Fault::Short))?;
+    check_eq(r.next(), Ok(0x08))
+}
+
 // A byte that is peeked outlasts a read of no bytes.
 fn peeked_outlasts_no_bytes<R: DeRead>(r: &mut R) -> Result<(), Fail> {
     check_eq(r.peek(), Ok(0x78))?;
