@@ -1,4 +1,5 @@
 //! tablecheck FILE..: says in plain words what each table file declares.
+ghost use mathlib.Core.Path.{_≡_};
 ghost use Rattle.bunser.specs.Outcome.{TellsAt};
 ghost use Rattle.bunser.specs.Reads.{header-read};
 ghost use Rattle.read.specs.Reader.{View};
@@ -39,8 +40,11 @@ fn header_of<R: DeRead + Drop>(read: R) -> Result<Header, Refusal>
 }
 
 impl Findings {
-    // The second reader gets the file as a chain of two halves, in pieces of 7 and of 64 bytes.
-    fn of(bytes: &[u8]) -> Findings {
+    // The second reader gets the file as a chain of two halves, in pieces of 7 and of 64 bytes. Both
+    // come to the same.
+    fn of(bytes: &[u8]) -> Findings
+        ensures { λ r. ⌜ r .«from_slice» ≡ r .«from_pieces» ⌝ }
+    {
         let size = bytes.len();
         let half = size / 2;
         let first = PieceSource::new(&bytes[0..half], 7, 0);
