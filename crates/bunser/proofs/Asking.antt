@@ -1,14 +1,14 @@
 -- When a read is granted, and what it then gives.
-use Rattle.std.proofs.Common.{◌≡◌, ℕ, ◌+◌, ◌-◌, ◌<◌, ◌≤◌, Bool, true, false, cond, ltb, List, [], ◌∷◌, ◌++◌, length, take, drop, replicate, IsErrAnd, Some, None, Ok, Err, Option, Result, sym, refl, ap, ◌∙◌, subst, arith, length-take}
+use Rattle.std.proofs.Common.{◌≡◌, ℕ, ◌+◌, ◌-◌, ◌≤◌, Bool, true, false, cond, ltb, List, ◌++◌, length, take, drop, replicate, IsErrAnd, Some, None, Ok, Err, Option, Result, sym, refl, ap, ◌∙◌, subst, arith, length-take}
 use Rattle.std.proofs.lemmas.Bool.{le-ltb, ltb-false}
 use Rattle.std.proofs.lemmas.List.{take_all, drop_at, drop-replicate}
 use Rattle.read.specs.declared.Fault.{Fault}
 use Rattle.read.specs.declared.Fault.TheVariants as fault
 use Rattle.read.specs.declared.Taken.{Taken}
-use Rattle.read.specs.declared.Taken.TheVariants.{Lent, Copied}
-use Rattle.read.specs.Reader.{View, Sound, past, room, cramped, shortfall, refusal, advanced, lies, put}
+use Rattle.read.specs.declared.Taken.TheVariants.{Lent}
+use Rattle.read.specs.Reader.{View, past, room, cramped, shortfall, refusal, advanced, lies, put}
 use Rattle.format.specs.declared.refusal.ReadError.{ReadError}
-use Rattle.bunser.specs.Outcome.{Outcome, got, bad, judged, asked, answer, Tells}
+use Rattle.bunser.specs.Outcome.{judged, asked, answer, Tells}
 use Rattle.bunser.specs.Reads.{bytes_read, fronts, padded, eight_read}
 use Rattle.bunser.proofs.Telling.{ok_err, err_is}
 

@@ -1,5 +1,5 @@
 -- How the parts of a header are told.
-use Rattle.std.proofs.Common.{◌≡◌, ℕ, ◌+◌, ◌<◌, ◌≤◌, Bool, true, false, cond, List, length, get_or, take, IsErrAnd, IfOk, Some, None, Ok, Err, Option, Result, sym, refl, ap, ◌∙◌, subst, arith}
+use Rattle.std.proofs.Common.{◌≡◌, ℕ, ◌+◌, ◌<◌, ◌≤◌, Bool, true, false, cond, List, get_or, take, IsErrAnd, IfOk, Some, None, Ok, Err, Option, Result, sym, refl, ap, ◌∙◌, subst, arith}
 use Rattle.std.proofs.lemmas.Bool.{ltb-false}
 use Rattle.source.specs.Bytes.{Octets}
 use Rattle.read.specs.Reader.{View, past, advanced}
@@ -9,7 +9,7 @@ use Rattle.format.specs.declared.refusal.ReadError.TheVariants.{Magic, TooLong}
 use Rattle.format.specs.declared.refusal.Refusal.{Refusal}
 use Rattle.format.specs.Integers.{little_endian}
 use Rattle.bunser.specs.declared.Header.{Header}
-use Rattle.bunser.specs.Outcome.{Outcome, got, bad, and_then, at, placed, placed_result, asked, answer, RefusalLeaves, TellsBy, Tells, TellsAt}
+use Rattle.bunser.specs.Outcome.{Outcome, got, bad, and_then, at, placed, placed_result, asked, answer, RefusalLeaves, Tells, TellsAt}
 use Rattle.bunser.specs.Reads.{padded, eight_digits, eight_read, count_read, magical, is_magic, magic_read, capabilities_read, bounded, length_read, header_read}
 use Rattle.bunser.proofs.Telling.{told_ok, told_placed, then_ok, then_stop, on_true, on_false, ok_err, err_is}
 use Rattle.bunser.proofs.Asking.{given, give, answer_stop}

@@ -1,5 +1,5 @@
 -- What eight bytes that were read are as an integer.
-use Rattle.std.proofs.Common.{◌≡◌, ℕ, ◌*◌, ◌<◌, ◌≤◌, Bool, List, length, take, ℤ, IsErrAnd, None, Ok, Err, Option, Result, sym, refl, ap, ◌∙◌, subst, arith}
+use Rattle.std.proofs.Common.{◌≡◌, ℕ, ◌*◌, ◌<◌, Bool, List, take, ℤ, IsErrAnd, None, Ok, Err, Option, Result, sym, ap, ◌∙◌, subst}
 use Rattle.source.specs.Bytes.{Octets}
 use Rattle.read.specs.Reader.{View, advanced}
 use Rattle.format.specs.declared.refusal.ReadError.{ReadError}

@@ -4,4 +4,3 @@ pub mod Asking
 pub mod Integers
 pub mod Headers
 pub mod Texts
-pub mod Pieces

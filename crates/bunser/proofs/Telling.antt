@@ -1,11 +1,11 @@
 -- How what is told of a read goes into what is told of a longer one.
-use Rattle.std.proofs.Common.{◌≡◌, ℕ, ◌+◌, ◌<◌, ◌≤◌, Bool, true, false, cond, List, [], IsErrAnd, Ok, Err, Result, sym, refl, ap, ◌∙◌, subst, arith}
+use Rattle.std.proofs.Common.{◌≡◌, ℕ, Bool, true, false, cond, IsErrAnd, Ok, Err, Result, sym, refl, ap, subst, arith}
 use Rattle.read.specs.Reader.{View}
 use Rattle.read.proofs.Slices.{nothing_lost}
 use Rattle.format.specs.declared.refusal.ReadError.{ReadError}
 use Rattle.format.specs.declared.refusal.ReadError.TheVariants.{End, Stop, Room, Short, Source, Magic, Byte, Negative, TooLong, NotText}
 use Rattle.format.specs.declared.refusal.Refusal.{Refusal}
-use Rattle.bunser.specs.Outcome.{Outcome, got, bad, and_then, at, placed, placed_result, ReadLeaves, RefusalLeaves, TellsBy, Tells, TellsAt}
+use Rattle.bunser.specs.Outcome.{Outcome, got, bad, and_then, at, placed, placed_result, ReadLeaves, TellsBy, Tells, TellsAt}
 use Rattle.bunser.specs.Reads.{told_as}
 
 pub ok_err : {A E : Type 0} {a : A} {e : E} {P : Type 0} → ◌≡◌ {A = Result A E} (Ok a) (Err e) → P

@@ -1,19 +1,19 @@
 -- How a text is told: its bytes lie where they were put, and are judged there.
-use Rattle.std.proofs.Common.{◌≡◌, ℕ, ◌+◌, ◌≤◌, Bool, true, false, cond, ltb, List, ◌++◌, length, get_or, take, drop, replicate, IsErrAnd, Some, None, Ok, Err, Option, Result, sym, refl, ap, ◌∙◌, subst, arith, length-append, length-drop, length-take}
+use Rattle.std.proofs.Common.{◌≡◌, ℕ, ◌+◌, ◌≤◌, Bool, true, false, cond, List, ◌++◌, length, get_or, take, drop, replicate, IsErrAnd, Some, None, Ok, Err, Option, Result, sym, refl, ap, ◌∙◌, subst, arith, length-append, length-take}
 use lib.ListN.{length-replicate}
-use Rattle.std.proofs.lemmas.Bool.{le-ltb, true≢false}
+use Rattle.std.proofs.lemmas.Bool.{le-ltb}
 use Rattle.std.proofs.lemmas.List.{take_all, take_at, drop_at}
 use Rattle.utf8.specs.Utf8.{utf8}
 use Rattle.read.specs.declared.Taken.{Taken}
-use Rattle.read.specs.declared.Taken.TheVariants.{Lent, Copied}
+use Rattle.read.specs.declared.Taken.TheVariants.{Lent}
 use Rattle.read.specs.Reader.{View, room, held, advanced, discarded, lies, put}
 use Rattle.format.specs.declared.refusal.ReadError.{ReadError}
 use Rattle.format.specs.declared.refusal.ReadError.TheVariants.{Byte, NotText}
 use Rattle.format.specs.declared.refusal.Kind.{Kind}
 use Rattle.format.specs.declared.refusal.Refusal.{Refusal}
-use Rattle.bunser.specs.Outcome.{got, bad, at, placed, placed_result, asked, answer, ReadLeaves, RefusalLeaves, Tells, TellsAt}
+use Rattle.bunser.specs.Outcome.{bad, at, placed, placed_result, asked, answer, ReadLeaves, RefusalLeaves, Tells, TellsAt}
 use Rattle.bunser.specs.Reads.{peek_read, bytes_read, fronts}
-use Rattle.bunser.specs.Texts.{textual, text_read, text_refusal, begins_key, placed_count, behind_key_tag, key_length_read, part_of, referred, is_lent, is_text}
+use Rattle.bunser.specs.Texts.{textual, text_read, text_fronts, begins_key, placed_count, behind_key_tag, key_length_read, part_of, referred, is_lent, is_text}
 use Rattle.bunser.proofs.Telling.{ok_err, then_ok, then_stop, told_placed, on_true, on_false}
 use Rattle.bunser.proofs.Asking.{granted, Given, given}
 use Rattle.bunser.proofs.Headers.{unplaced}
@@ -61,13 +61,13 @@ module _ (end : Option ℕ) (n : ℕ) (v w : View) (buf buf' : List ℕ) where
 
   pub text_told : (lends : Bool) (taken : Taken) (b : Bool) → length v.kept ≡ cond lends v.count 0 → Tells (bytes_read lends end (room lends buf) n v) (Ok taken) w →
       buf' ≡ put lends (fronts (asked end v (room lends buf) n) n v) buf → b ≡ is_text (referred lends w taken n buf') → b ≡ true →
-      Tells (text_read lends end (room lends buf) n v) (Ok taken) w × (buf' ≡ put lends (fronts (text_refusal (asked end v (room lends buf) n) (utf8 (take n v.coming))) n v) buf)
+      Tells (text_read lends end (room lends buf) n v) (Ok taken) w × (buf' ≡ put lends (text_fronts (asked end v (room lends buf) n) (utf8 (take n v.coming)) n v) buf)
   unfolding text_read
   text_told lends taken b kept h at is yes_it =
       let u = judged_there lends taken b kept h at is ∙ yes_it in
       let g = came lends taken h in
-      let plain : fronts (text_refusal (asked end v (room lends buf) n) (utf8 (take n v.coming))) n v ≡ fronts (asked end v (room lends buf) n) n v =
-      ap (λ o. fronts (text_refusal o (utf8 (take n v.coming))) n v) g.granted_it ∙ ap (λ x. fronts (text_refusal None x) n v) u ∙ ap (λ o. fronts o n v) (sym g.granted_it) in (
+      let plain : text_fronts (asked end v (room lends buf) n) (utf8 (take n v.coming)) n v ≡ fronts (asked end v (room lends buf) n) n v =
+      ap (λ o. text_fronts o (utf8 (take n v.coming)) n v) g.granted_it ∙ ap (λ x. text_fronts None x n v) u ∙ ap (λ o. fronts o n v) (sym g.granted_it) in (
         then_ok ReadLeaves (bytes_read lends end (room lends buf) n v) (textual (utf8 (take n v.coming))) taken w (Ok taken) w h
             (subst (λ x. Tells (textual x taken w) (Ok taken) w) (sym u) (refl, refl)),
         at ∙ ap (λ l. put lends l buf) (sym plain),
@@ -89,13 +89,13 @@ module _ (end : Option ℕ) (n : ℕ) (v w : View) (buf buf' : List ℕ) where
 
   pub no_text_told : (lends : Bool) (taken : Taken) (b : Bool) (buf'' : List ℕ) → length v.kept ≡ cond lends v.count 0 → Tells (bytes_read lends end (room lends buf) n v) (Ok taken) w →
       buf' ≡ put lends (fronts (asked end v (room lends buf) n) n v) buf → b ≡ is_text (referred lends w taken n buf') → b ≡ false → buf'' ≡ put (is_lent taken) (replicate n 0) buf' →
-      Tells (text_read lends end (room lends buf) n v) (Err NotText) w × (buf'' ≡ put lends (fronts (text_refusal (asked end v (room lends buf) n) (utf8 (take n v.coming))) n v) buf)
+      Tells (text_read lends end (room lends buf) n v) (Err NotText) w × (buf'' ≡ put lends (text_fronts (asked end v (room lends buf) n) (utf8 (take n v.coming)) n v) buf)
   unfolding text_read
   no_text_told lends taken b buf'' kept h at is no_it wiped =
       let u = judged_there lends taken b kept h at is ∙ no_it in
       let g = came lends taken h in
-      let zeros : fronts (text_refusal (asked end v (room lends buf) n) (utf8 (take n v.coming))) n v ≡ replicate n 0 =
-      ap (λ o. fronts (text_refusal o (utf8 (take n v.coming))) n v) g.granted_it ∙ ap (λ x. fronts (text_refusal None x) n v) u in (
+      let zeros : text_fronts (asked end v (room lends buf) n) (utf8 (take n v.coming)) n v ≡ replicate n 0 =
+      ap (λ o. text_fronts o (utf8 (take n v.coming)) n v) g.granted_it ∙ ap (λ x. text_fronts None x n v) u in (
         then_ok ReadLeaves (bytes_read lends end (room lends buf) n v) (textual (utf8 (take n v.coming))) taken w (Err NotText) w h
             (subst (λ x. Tells (textual x taken w) (Err NotText) w) (sym u) (refl, refl)),
         zeroed lends taken buf'' g at wiped ∙ ap (λ l. put lends l buf) (sym zeros),
@@ -103,14 +103,14 @@ module _ (end : Option ℕ) (n : ℕ) (v w : View) (buf buf' : List ℕ) where
 
   pub text_stop : (lends : Bool) (e : ReadError) (r : Result Taken ReadError) → Tells (bytes_read lends end (room lends buf) n v) (Err e) w → IsErrAnd r (λ f. f ≡ e) →
       buf' ≡ put lends (fronts (asked end v (room lends buf) n) n v) buf →
-      Tells (text_read lends end (room lends buf) n v) r w × (buf' ≡ put lends (fronts (text_refusal (asked end v (room lends buf) n) (utf8 (take n v.coming))) n v) buf)
+      Tells (text_read lends end (room lends buf) n v) r w × (buf' ≡ put lends (text_fronts (asked end v (room lends buf) n) (utf8 (take n v.coming)) n v) buf)
   unfolding text_read
   text_stop lends e r h k at = (
     then_stop ReadLeaves (bytes_read lends end (room lends buf) n v) (textual (utf8 (take n v.coming))) e w r h k,
     at ∙ ap (λ l. put lends l buf) (sym (same (asked end v (room lends buf) n) h)),
   )
     where
-      same : (o : Option ReadError) → Tells (answer o v (lies lends v) (advanced lends n v)) (Err e) w → fronts (text_refusal o (utf8 (take n v.coming))) n v ≡ fronts o n v
+      same : (o : Option ReadError) → Tells (answer o v (lies lends v) (advanced lends n v)) (Err e) w → text_fronts o (utf8 (take n v.coming)) n v ≡ fronts o n v
       same None h = ok_err (sym h.0)
       same (Some f) h = refl
 

@@ -1,4 +1,3 @@
 pub mod Outcome
 pub mod Reads
 pub mod Texts
-pub mod Passing

@@ -1,7 +1,7 @@
 -- What each read gives and leaves of the reader's meaning, or how it refuses.
-use Rattle.std.specs.Prelude.{◌≡◌, ℕ, ◌+◌, ◌-◌, ◌*◌, Bool, true, false, cond, ◌&&◌, List, [], ◌++◌, length, take, replicate, ℤ, pos, negsuc, Some, None, Ok, Err, Option, Result, ◌==◌, slice_index}
+use Rattle.std.specs.Prelude.{ℕ, ◌+◌, ◌-◌, ◌*◌, Bool, cond, ◌&&◌, List, [], ◌++◌, take, replicate, ℤ, pos, negsuc, Some, None, Ok, Err, Option, Result, ◌==◌, slice_index}
 use Rattle.read.specs.declared.Taken.{Taken}
-use Rattle.read.specs.Reader.{View, past, room, held, advanced, discarded, lies, put}
+use Rattle.read.specs.Reader.{View, past, held, advanced, discarded, lies}
 use Rattle.format.specs.Integers.{width_of, bytes_of, little_endian, twos_complement}
 use Rattle.format.specs.declared.width.Width.{Width}
 use Rattle.format.specs.declared.refusal.ReadError.{ReadError}
@@ -33,7 +33,7 @@ fronts (Some (Magic a b)) n v = []
 fronts (Some (Byte kind b)) n v = []
 fronts (Some Negative) n v = []
 fronts (Some TooLong) n v = []
-fronts (Some NotText) n v = replicate n 0
+fronts (Some NotText) n v = []
 
 -- n bytes are taken, and given at the front of eight
 abbrev pub padded : ℕ → List ℕ → List ℕ

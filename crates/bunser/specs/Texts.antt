@@ -1,5 +1,5 @@
 -- Texts: bytes in one read that have to be UTF-8, and where the bytes lie afterwards.
-use Rattle.std.specs.Prelude.{ℕ, ◌+◌, Bool, true, false, cond, ◌||◌, List, length, take, drop, Some, None, Option, ◌==◌, nat_lt}
+use Rattle.std.specs.Prelude.{ℕ, ◌+◌, Bool, true, false, cond, ◌||◌, List, length, take, drop, replicate, Some, None, Option, ◌==◌, nat_lt}
 use Rattle.utf8.specs.Utf8.{utf8}
 use Rattle.read.specs.declared.Taken.{Taken}
 use Rattle.read.specs.declared.Taken.TheVariants.{Lent, Copied}
@@ -8,11 +8,10 @@ use Rattle.format.specs.declared.refusal.ReadError.{ReadError}
 use Rattle.format.specs.declared.refusal.ReadError.TheVariants.{Byte, NotText}
 use Rattle.format.specs.declared.refusal.Kind.{Kind}
 use Rattle.format.specs.declared.refusal.Refusal.{Refusal}
-use Rattle.bunser.specs.declared.text.Span.{Span}
 use Rattle.bunser.specs.declared.text.Reference.{Reference}
 use Rattle.bunser.specs.declared.text.Reference.TheVariants as reference
 use Rattle.bunser.specs.Outcome.{Outcome, got, bad, and_then, at, placed}
-use Rattle.bunser.specs.Reads.{peek_read, bytes_read, count_read}
+use Rattle.bunser.specs.Reads.{peek_read, bytes_read, fronts, count_read}
 
 -- ---- what has to be UTF-8
 
@@ -24,11 +23,12 @@ textual false t w = bad NotText w
 unfoldable pub text_read : Bool → Option ℕ → Option ℕ → ℕ → View → Outcome ReadError Taken
 text_read lends end space n v = and_then (bytes_read lends end space n v) (textual (utf8 (take n v.coming)))
 
--- how it is refused: by the read of its bytes, or since they are not UTF-8
-abbrev pub text_refusal : Option ReadError → Bool → Option ReadError
-text_refusal (Some e) b = Some e
-text_refusal None true = None
-text_refusal None false = Some NotText
+-- what such a read puts to the front of a copying reader's buffer: what the read of its bytes puts
+-- there, or zeros where the bytes are not UTF-8
+abbrev pub text_fronts : Option ReadError → Bool → ℕ → View → List ℕ
+text_fronts (Some e) b n v = fronts (Some e) n v
+text_fronts None true n v = fronts None n v
+text_fronts None false n v = replicate n 0
 
 -- ---- keys
 

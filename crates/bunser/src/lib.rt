@@ -1,4 +1,6 @@
 //! Numbers and the header of a PDU, over any reader.
+#![tactic(auto)]
+
 ghost use Rattle.std.specs.Prelude.{◌≡◌, ◌+◌, ◌-◌, ◌*◌, ◌<◌, ◌≤◌, ◌++◌, length, take, drop, IfOk, Some, None};
 ghost use Rattle.read.specs.Reader.{past, room, put, discarded};
 ghost use Rattle.format.specs.Integers.{half_of, twos_complement};
@@ -10,7 +12,6 @@ use format::tags::{FARTHEST, MAGIC};
 use format::width::Width;
 use read::{DeRead, Fault, Taken};
 
-pub mod passing;
 pub mod text;
 
 /// What the header of a PDU declares.
@@ -54,9 +55,9 @@ fn passes(end: Option<usize>, at: usize, n: usize) -> bool
 // Copies the last n bytes that a lending reader took to the front of the eight.
 fn copy_last<R: DeRead>(read: &R, n: usize, bytes: &mut [u8; 8])
     requires few { n ≤ 8 }
-    requires there { n ≤ (view read.now).count }
-    requires lent { length (view read.now).kept ≡ (view read.now).count }
-    ensures { bytes.new ≡ take n (drop ((view read.now).count - n) (view read.now).kept) ++ drop n bytes.old }
+    requires there { n ≤ (R.DeRead.view read.now).count }
+    requires lent { length (R.DeRead.view read.now).kept ≡ (R.DeRead.view read.now).count }
+    ensures { bytes.new ≡ take n (drop ((R.DeRead.view read.now).count - n) (R.DeRead.view read.now).kept) ++ drop n bytes.old }
 {
     let from = read.read_count() - n;
     for i in 0..n {

@@ -5,8 +5,7 @@ ghost use Rattle.read.specs.declared.Taken.TheVariants as taken_as;
 ghost use Rattle.read.specs.Reader.{room, put};
 ghost use Rattle.format.specs.declared.refusal.ReadError.TheVariants.{Room};
 ghost use Rattle.bunser.specs.Outcome.{at, asked, Tells, TellsAt};
-ghost use Rattle.bunser.specs.Reads.{fronts};
-ghost use Rattle.bunser.specs.Texts.{begins_key, placed_count, key_length_read, text_read, text_refusal, part_of, spanned, referred, is_lent, bytes_of, is_borrowed, is_text};
+ghost use Rattle.bunser.specs.Texts.{begins_key, placed_count, key_length_read, text_read, text_fronts, part_of, spanned, referred, is_lent, bytes_of, is_borrowed, is_text};
 
 use super::{Bunser, placed};
 use format::refusal::{Kind, ReadError, Refusal};
@@ -146,7 +145,7 @@ impl<R: DeRead> Bunser<R> {
     /// Takes a text of n bytes in one read. It has to be UTF-8, and is taken either way.
     pub fn next_text(&mut self, n: usize, buf: &mut [u8]) -> Result<Taken, ReadError>
         ensures reads { Tells (text_read R.DeRead.lends self.old.end (room R.DeRead.lends buf.old) n (R.DeRead.view self.old.read)) result (R.DeRead.view self.new.read) }
-        ensures puts { buf.new ≡ put R.DeRead.lends (fronts (text_refusal (asked self.old.end (R.DeRead.view self.old.read) (room R.DeRead.lends buf.old) n) (utf8 (take n (R.DeRead.view self.old.read).coming))) n (R.DeRead.view self.old.read)) buf.old }
+        ensures puts { buf.new ≡ put R.DeRead.lends (text_fronts (asked self.old.end (R.DeRead.view self.old.read) (room R.DeRead.lends buf.old) n) (utf8 (take n (R.DeRead.view self.old.read).coming)) n (R.DeRead.view self.old.read)) buf.old }
         ensures same { self.new.end ≡ self.old.end }
     {
         let taken = self.read_bytes(n, buf)?;

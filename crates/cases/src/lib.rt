@@ -1,4 +1,6 @@
 //! Executed cases of sources, readers, numbers and the header.
+#![tactic(auto)]
+
 #[cfg(test)]
 mod headers;
 #[cfg(test)]

@@ -16,7 +16,7 @@ use Rattle.format.specs.declared.refusal.Refusal.{Refusal}
 use Rattle.bunser.specs.declared.text.Span.{Span}
 use Rattle.bunser.specs.Outcome.{Outcome, got, bad, at, placed, asked, CauseLeaves}
 use Rattle.bunser.specs.Reads.{peek_read, bytes_read, int_read, real_read, fronts}
-use Rattle.bunser.specs.Texts.{text_read, text_refusal, placed_count, key_length_read}
+use Rattle.bunser.specs.Texts.{text_read, text_fronts, placed_count, key_length_read}
 use Rattle.room.specs.declared.due.Due.{Due}
 use Rattle.room.specs.declared.due.Due.TheVariants as due
 use Rattle.room.specs.Open.{Column, lent, copied, Open, items, pairs, rows, filled, ended, keyed, row_turned, column, depth, keys_held, bytes_held}
@@ -81,11 +81,11 @@ text_outcome text.Bytes lends end space n v = bytes_read lends end space n v
 text_outcome text.Text lends end space n v = text_read lends end space n v
 text_outcome text.Key lends end space n v = text_read lends end space n v
 
--- how it is refused, which says what stands in the buffer
-abbrev pub text_refused : TextKind → Option ℕ → Option ℕ → ℕ → View → Option ReadError
-text_refused text.Bytes end space n v = asked end v space n
-text_refused text.Text end space n v = text_refusal (asked end v space n) (utf8 (take n v.coming))
-text_refused text.Key end space n v = text_refusal (asked end v space n) (utf8 (take n v.coming))
+-- what it puts to the front of a copying reader's buffer
+abbrev pub text_puts : TextKind → Option ℕ → Option ℕ → ℕ → View → List ℕ
+text_puts text.Bytes end space n v = fronts (asked end v space n) n v
+text_puts text.Text end space n v = text_fronts (asked end v space n) (utf8 (take n v.coming)) n v
+text_puts text.Key end space n v = text_fronts (asked end v space n) (utf8 (take n v.coming)) n v
 
 -- a reader that lends puts nothing to the buffer
 abbrev pub text_front : Bool → List ℕ → List ℕ
@@ -110,7 +110,7 @@ text_by (bad r v) u b x = stops r (moved b v) x
 unfoldable pub text_step : Bool → Option ℕ → Unread → Body → Out
 text_step lends space u b =
     text_by (placed b.reader.count (text_outcome u.kind lends b.end (text_space lends space) u.len b.reader)) u b
-    (text_front lends (fronts (text_refused u.kind b.end (text_space lends space) u.len b.reader) u.len b.reader))
+    (text_front lends (text_puts u.kind b.end (text_space lends space) u.len b.reader))
 
 abbrev pub awaited_step : Bool → Option ℕ → TextKind → Body → ℕ → View → Out
 awaited_step lends space k b n v = text_step lends space (record { kind = k; len = n }) (awaiting b v (record { kind = k; len = n }))

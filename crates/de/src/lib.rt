@@ -1,4 +1,6 @@
 //! A decoder over any reader: four calls that give a body event by event.
+#![tactic(auto)]
+
 pub mod entry;
 pub mod event;
 pub mod pdu;

@@ -1,5 +1,5 @@
 -- Integers: the tag of each width, and what the bytes behind it mean.
-use Rattle.std.specs.Prelude.{ℕ, suc, ◌+◌, ◌-◌, ◌*◌, Bool, true, false, cond, List, [], ◌∷◌, ℤ, pos, negsuc, Some, None, Option, ◌==◌, nat_lt}
+use Rattle.std.specs.Prelude.{ℕ, suc, ◌+◌, ◌-◌, ◌*◌, cond, List, [], ◌∷◌, ℤ, pos, negsuc, Some, None, Option, ◌==◌, nat_lt}
 use Rattle.format.specs.declared.width.Width.{Width}
 use Rattle.format.specs.declared.width.Width.TheVariants.{W8, W16, W32, W64}
 

@@ -1,6 +1,6 @@
 -- That the meanings of the readers are sound: proofs that the readers hand to their trait.
-use Rattle.std.specs.Prelude.{◌≡◌, ℕ, suc, ◌<◌, ◌≤◌, Bool, true, false, List, [], ◌∷◌, ◌++◌, length, take, drop, is_some, Some, None, Option, refl}
-use Rattle.std.proofs.Common.{arith, lit<, length-take, length-drop, length-append, get_or-take}
+use Rattle.std.specs.Prelude.{◌≡◌, ℕ, ◌<◌, ◌≤◌, Bool, true, false, List, [], ◌++◌, length, take, drop, is_some, Some, None, Option, refl}
+use Rattle.std.proofs.Common.{arith, lit<, length-take, length-drop}
 use Rattle.source.specs.Bytes.{Octets}
 use Rattle.source.specs.Feed.{Feed}
 use Rattle.source.specs.Feed as feed

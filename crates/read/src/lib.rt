@@ -1,4 +1,6 @@
 //! Readers: bytes that are taken one by one or several at once, and counted.
+#![tactic(auto)]
+
 ghost use Rattle.std.specs.Prelude.{◌≡◌, Bool, Some, None, MatchOption};
 ghost use Rattle.read.specs.Reader.{View, Sound, Peek, Next, discarded, NextBytes, kept_at, lent_part};
 

@@ -109,10 +109,11 @@ impl<'a> DeRead for SliceRead<'a> {
     }
 
     fn kept_part(&self, place: usize, n: usize) -> Option<&[u8]> {
-        if place > self.index || n > self.index - place {
-            return None;
+        if place <= self.index && n <= self.index - place {
+            Some(&self.slice[place..place + n])
+        } else {
+            None
         }
-        Some(&self.slice[place..place + n])
     }
 
     fn lends(&self) -> bool {

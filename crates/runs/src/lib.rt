@@ -1,1 +1,2 @@
 //! What holds of any list of calls on a decoder, over every reader.
+#![tactic(auto)]

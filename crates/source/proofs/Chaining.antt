@@ -1,8 +1,8 @@
 -- A read of a chain.
-use Rattle.std.proofs.Common.{◌≡◌, ℕ, ◌+◌, ◌-◌, ◌<◌, ◌≤◌, Bool, true, false, cond, eqb, List, [], ◌++◌, length, take, drop, Ok, Err, Result, sym, refl, ap, ◌∙◌, subst, arith, length-append}
+use Rattle.std.proofs.Common.{◌≡◌, ℕ, ◌<◌, cond, eqb, List, [], length, Ok, Result, sym, refl, ap, ◌∙◌, subst, arith, length-append}
 use Rattle.std.proofs.lemmas.Bool.Decides.{nat_tests}
 use Rattle.std.proofs.lemmas.List.{take-append-le, drop-append-le, nil_from_length}
-use Rattle.source.specs.Feed.{Feed, after, fronted, told, Portion, Read, chained}
+use Rattle.source.specs.Feed.{Feed, fronted, Read, chained}
 use Rattle.source.proofs.Reading.{came, gives}
 
 module _ (f f1 g : Feed) (buf buf1 : List ℕ) where

@@ -1,6 +1,6 @@
 -- That the feeds of the sources are sound: proofs that the sources hand to their trait.
-use Rattle.std.specs.Prelude.{◌≡◌, ℕ, zero, suc, ◌+◌, ◌<◌, Bool, true, false, cond, List, [], ◌∷◌, ◌++◌, take, drop, ◌==◌, refl}
-use Rattle.std.proofs.Common.{sym, ap, subst, ◌∙◌, arith, get_or-drop}
+use Rattle.std.specs.Prelude.{ℕ, zero, suc, ◌+◌, ◌<◌, Bool, true, false, cond, List, [], ◌∷◌, ◌++◌, take, drop, ◌==◌}
+use Rattle.std.proofs.Common.{arith, get_or-drop}
 use Rattle.source.specs.Bytes.{Octets}
 use Rattle.source.specs.Feed.{Feed, Sound, chained}
 

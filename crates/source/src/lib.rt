@@ -1,4 +1,6 @@
 //! Sources: where bytes come from, some at a time, and how they end.
+#![tactic(auto)]
+
 ghost use Rattle.std.specs.Prelude.{◌≡◌, length};
 ghost use Rattle.source.specs.Feed.{Feed, Sound, Read, Fill};
 
@@ -21,7 +23,7 @@ pub trait Source {
 /// Fills the whole buffer, asking each time for all that is still wanted. Where the source ends
 /// first the answer is its ending, 0 for a clean one.
 pub fn read_exact<S: Source>(source: &mut S, buf: &mut [u8]) -> Result<(), u16>
-    ensures { Fill (feed source.old) buf.old result (feed source.new) buf.new }
+    ensures { Fill (S.feed source.old) buf.old result (S.feed source.new) buf.new }
 {
     let mut at = 0;
     while at < buf.len() {

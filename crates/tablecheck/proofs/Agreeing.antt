@@ -1,11 +1,11 @@
 -- Over the same bytes a reader that lends and one that copies come to the same header.
-use Rattle.std.proofs.Common.{◌≡◌, ℕ, ◌+◌, ◌-◌, ◌<◌, ◌≤◌, Bool, true, false, cond, eqb, ltb, List, [], ◌∷◌, ◌++◌, length, get_or, take, drop, ℤ, pos, negsuc, Some, None, Ok, Err, Option, Result, sym, refl, ap, ◌∙◌, subst, append-nil, arith, take-append-drop}
+use Rattle.std.proofs.Common.{◌≡◌, ℕ, ◌+◌, ◌-◌, ◌≤◌, Bool, true, false, cond, eqb, ltb, List, ◌++◌, length, get_or, take, drop, Some, None, Ok, Err, Option, Result, sym, refl, ap, ◌∙◌, subst, arith, take-append-drop}
 use Rattle.std.proofs.lemmas.Bool.{le-ltb}
 use Rattle.std.proofs.lemmas.List.{take_rest}
 use Rattle.read.specs.declared.Fault.TheVariants as fault
 use Rattle.source.specs.Feed.{chained}
 use Rattle.read.specs.Sound.{slice_view, io_view}
-use Rattle.read.specs.Reader.{View, past, shortfall, refusal, held, advanced, discarded}
+use Rattle.read.specs.Reader.{View, past, shortfall, held, advanced, discarded}
 use Rattle.format.specs.declared.width.Width.{Width}
 use Rattle.format.specs.declared.width.Width.TheVariants.{W8, W16, W32, W64}
 use Rattle.format.specs.declared.refusal.ReadError.{ReadError}
@@ -13,8 +13,8 @@ use Rattle.format.specs.declared.refusal.ReadError.TheVariants.{Magic, TooLong}
 use Rattle.format.specs.declared.refusal.Refusal.{Refusal}
 use Rattle.format.specs.Integers.{bytes_of, little_endian, twos_complement}
 use Rattle.bunser.specs.declared.Header.{Header}
-use Rattle.bunser.specs.Outcome.{Outcome, got, bad, and_then, at, placed, judged, asked, answer, RefusalLeaves, TellsBy, TellsAt}
-use Rattle.bunser.specs.Reads.{peek_read, padded, eight_read, int_read, int_width, behind_tag, tagged_int_read, count_of, told_as, count_read, magical, is_magic, magic_read, capabilities_read, bounded, length_read, header_read}
+use Rattle.bunser.specs.Outcome.{Outcome, got, bad, and_then, at, placed, judged, asked, answer, TellsAt}
+use Rattle.bunser.specs.Reads.{peek_read, padded, eight_read, int_width, behind_tag, tagged_int_read, count_of, told_as, count_read, magical, is_magic, magic_read, capabilities_read, bounded, length_read, header_read}
 
 -- the same reader but for lending and copying, and for a stop that is far away; so many bytes are taken at most
 record Alike (most : ℕ) (v w : View) : Type 0 where

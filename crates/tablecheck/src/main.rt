@@ -1,4 +1,6 @@
 //! tablecheck FILE..: says in plain words what each table file declares.
+#![tactic(auto)]
+
 ghost use Rattle.std.specs.Prelude.{◌≡◌};
 ghost use Rattle.bunser.specs.Outcome.{TellsAt};
 ghost use Rattle.bunser.specs.Reads.{header_read};

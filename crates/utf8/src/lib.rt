@@ -1,4 +1,6 @@
 //! Well-formed UTF-8, by Table 3-7 of the Unicode Standard.
+#![tactic(auto)]
+
 ghost use Rattle.std.specs.Prelude.{◌≡◌, ◌<◌, ◌≤◌, false, length, drop, if◌then◌else◌, nat_eq};
 ghost use Rattle.utf8.specs.Utf8.{utf8, within, first, announced, allows};
 

@@ -1,5 +1,7 @@
 //! Compares the check for UTF-8 with the standard library's on every sequence of up to three bytes
 //! and around every boundary of the four-byte forms.
+#![tactic(auto)]
+
 use std::str::from_utf8;
 use utf8::is_utf8;
 

@@ -1,5 +1,5 @@
 -- The worked examples, computed.
-use Rattle.std.proofs.Common.{◌≡◌, ℕ, ◌<◌, refl, arith, lit<, lit≤}
+use Rattle.std.proofs.Common.{◌<◌, refl, arith, lit<, lit≤}
 use Rattle.std.proofs.lemmas.Bool.{false≢true}
 use Rattle.utf8.specs.Utf8.{utf8}
 use Rattle.values.specs.Values.{count_encoding}

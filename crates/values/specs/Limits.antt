@@ -1,5 +1,5 @@
 -- The limits of this reader, which are no part of what a value is.
-use Rattle.std.specs.Prelude.{ℕ, suc, ◌+◌, ◌<◌, ◌≤◌, Bool, true, false, List, [], ◌∷◌, length}
+use Rattle.std.specs.Prelude.{ℕ, suc, ◌+◌, ◌<◌, ◌≤◌, List, [], ◌∷◌, length}
 use Rattle.values.specs.Values.{Key, Value, Values, Pairs, Rows, Cells, null, yes_value, no_value, integer, real, bytes, text, array, object, template, no_values, value, no_pairs, pair, no_rows, row, no_cells, gap, cell, row_count}
 
 -- no limits at all, or those over a reader that lends or one that copies

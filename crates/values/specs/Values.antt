@@ -1,7 +1,7 @@
 -- What a BSER value is: its encoding, its events, and when it is well formed.
 -- A value has in it every choice that an encoding leaves free: the width of each count and length,
 -- and the tag of each key.
-use Rattle.std.specs.Prelude.{◌≡◌, ℕ, zero, suc, ◌-◌, ◌*◌, ◌/◌, ◌%◌, ◌^◌, ◌<◌, Bool, true, List, [], ◌∷◌, ◌++◌, length, ℤ, pos, negsuc}
+use Rattle.std.specs.Prelude.{◌≡◌, ℕ, zero, suc, ◌-◌, ◌*◌, ◌/◌, ◌%◌, ◌^◌, ◌<◌, true, List, [], ◌∷◌, ◌++◌, length, ℤ, pos, negsuc}
 use Rattle.format.specs.declared.width.Width.{Width}
 use Rattle.format.specs.declared.width.Width.TheVariants.{W8, W16, W32, W64}
 use Rattle.format.specs.Integers.{bytes_of, half_of}

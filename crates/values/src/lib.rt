@@ -1,4 +1,6 @@
 //! What a value is: the definitions stand in specs/, and this crate shows worked examples of them.
+#![tactic(auto)]
+
 ghost use Rattle.values.specs.Examples.{Examples};
 ghost use Rattle.values.specs.Watchman.{Watchman};
 

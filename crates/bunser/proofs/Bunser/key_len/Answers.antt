@@ -1,27 +1,27 @@
-use Rattle.std.proofs.Common.{◌≡◌, sym, ◌∙◌, subst₂}
+use Rattle.std.proofs.Common.{sym, ◌∙◌, subst₂}
 use Rattle.bunser.specs.Outcome.{TellsAt}
 use Rattle.bunser.specs.Texts.{placed_count}
 use Rattle.bunser.proofs.Texts.{key_stop, no_key, key_told}
 use Rattle.bunser.proofs.Bunser.key_len.Goals as goal
 
-pub returns-in-err-tag : goal.returns-in-err-tag
-returns-in-err-tag g c =
+pub returns-in_err-tag : goal.returns-in_err-tag
+returns-in_err-tag g c =
     let v = g.R.DeRead.view c.args.self.now.read in
     let w = g.R.DeRead.view c.peek.new.self.read in
     let h = c.peek.ensures in
     record {
-      reads = key_stop g.R.DeRead.lends c.args.self.now.end c.args.kind v w c.read-count-place.result c.read-count-place.ensures c.peek.result h.reads _ c.from-residual.result c.in-err-tag.ensures c.from-residual.ensures.1;
+      reads = key_stop g.R.DeRead.lends c.args.self.now.end c.args.kind v w c.read_count-place.result c.read_count-place.ensures c.peek.result h.reads _ c.from_residual.result c.in_err-tag.ensures c.from_residual.ensures.1;
       same = h.same;
     }
 
-pub returns-then-not-begins-key : goal.returns-then-not-begins-key
-returns-then-not-begins-key g c =
+pub returns-then-not-begins_key : goal.returns-then-not-begins_key
+returns-then-not-begins_key g c =
     let v = g.R.DeRead.view c.args.self.now.read in
     let w = g.R.DeRead.view c.peek.new.self.read in
     let h = c.peek.ensures in
     record {
-      reads = no_key g.R.DeRead.lends c.args.self.now.end c.args.kind v w c.read-count-place.result c.read-count-place.ensures c.peek.result h.reads c.in-ok-tag.tag c.at.result
-          c.in-ok-tag.ensures (sym c.begins_key.ensures ∙ c.if-not-begins-key.true) c.at.ensures;
+      reads = no_key g.R.DeRead.lends c.args.self.now.end c.args.kind v w c.read_count-place.result c.read_count-place.ensures c.peek.result h.reads c.in_ok-tag.tag c.at.result
+          c.in_ok-tag.ensures (sym c.begins_key.ensures ∙ c.if-not-begins_key.true) c.at.ensures;
       same = h.same;
     }
 
@@ -34,8 +34,8 @@ returns g c =
     let k = c.placed_count.ensures in
     let end = c.discard.ensures.same ∙ h.same in
     record {
-      reads = key_told g.R.DeRead.lends c.args.self.now.end c.args.kind v w c.read-count-place.result c.read-count-place.ensures c.peek.result h.reads c.in-ok-tag.tag u c.placed_count.result
-          c.in-ok-tag.ensures (sym c.begins_key.ensures ∙ c.if-not-begins-key.false)
+      reads = key_told g.R.DeRead.lends c.args.self.now.end c.args.kind v w c.read_count-place.result c.read_count-place.ensures c.peek.result h.reads c.in_ok-tag.tag u c.placed_count.result
+          c.in_ok-tag.ensures (sym c.begins_key.ensures ∙ c.if-not-begins_key.false)
           (subst₂ (λ e x. TellsAt (placed_count g.R.DeRead.lends e x) c.placed_count.result u) end c.discard.ensures.reads k.reads);
       same = k.same ∙ end;
     }

@@ -1,43 +1,42 @@
-use Rattle.std.proofs.Common.{◌≡◌, sym, refl, ap, ◌∙◌, subst}
 use Rattle.bunser.proofs.Asking.{eight_stop, lent_all, lent_eight, copied_eight}
 use Rattle.bunser.proofs.Bunser.read_eight.Goals as goal
 
-pub returns-in-err-taken : goal.returns-in-err-taken
-returns-in-err-taken g c =
-    let h = c.in-err-taken.ensures in
+pub returns-in_err-taken : goal.returns-in_err-taken
+returns-in_err-taken g c =
+    let h = c.in_err-taken.ensures in
     let v = g.R.DeRead.view c.args.self.now.read in
-    let w = g.R.DeRead.view c.read-bytes.new.self.read in
+    let w = g.R.DeRead.view c.read_bytes.new.self.read in
     record {
-      reads = eight_stop c.args.self.now.end c.args.n v w c.requires g.R.DeRead.lends _ c.from-residual.result h.reads c.from-residual.ensures.1;
+      reads = eight_stop c.args.self.now.end c.args.n v w c.requires g.R.DeRead.lends _ c.from_residual.result h.reads c.from_residual.ensures.1;
       same = h.same;
     }
 
-pub copy-last-requires : goal.copy-last-requires
-copy-last-requires g c =
+pub copy_last-requires : goal.copy_last-requires
+copy_last-requires g c =
     let v = g.R.DeRead.view c.args.self.now.read in
-    let w = g.R.DeRead.view c.read-bytes.new.self.read in
-    let kept = (g.R.DeRead.sound c.read-bytes.new.self.read).kept_all in
-    let h = lent_all c.args.self.now.end c.args.n v w c.requires g.R.DeRead.lends c.in-ok-taken.taken c.in-Lent.field-0 c.in-Lent.is kept c.in-ok-taken.ensures.reads in
+    let w = g.R.DeRead.view c.read_bytes.new.self.read in
+    let kept = (g.R.DeRead.sound c.read_bytes.new.self.read).kept_all in
+    let h = lent_all c.args.self.now.end c.args.n v w c.requires g.R.DeRead.lends c.in_ok-taken.taken c.in-Lent.field-0 c.in-Lent.is kept c.in_ok-taken.ensures.reads in
     record { few = c.requires; there = h.0; lent = h.1 }
 
 pub returns-in-Lent : goal.returns-in-Lent
 returns-in-Lent g c =
-    let h = c.in-ok-taken.ensures in
+    let h = c.in_ok-taken.ensures in
     let v = g.R.DeRead.view c.args.self.now.read in
-    let w = g.R.DeRead.view c.read-bytes.new.self.read in
+    let w = g.R.DeRead.view c.read_bytes.new.self.read in
     let kept = (g.R.DeRead.sound c.args.self.now.read).kept_all in
     record {
-      reads = lent_eight c.args.self.now.end c.args.n v w c.requires g.R.DeRead.lends c.in-ok-taken.taken c.in-Lent.field-0 c.read-bytes.new.buf c.copy-last.new.bytes
-          c.in-Lent.is kept h.reads h.puts c.copy-last.ensures;
+      reads = lent_eight c.args.self.now.end c.args.n v w c.requires g.R.DeRead.lends c.in_ok-taken.taken c.in-Lent.field-0 c.read_bytes.new.buf c.copy_last.new.bytes
+          c.in-Lent.is kept h.reads h.puts c.copy_last.ensures;
       same = h.same;
     }
 
-pub returns-in-default : goal.returns-in-default
-returns-in-default g c =
-    let h = c.in-ok-taken.ensures in
+pub returns-in_default : goal.returns-in_default
+returns-in_default g c =
+    let h = c.in_ok-taken.ensures in
     let v = g.R.DeRead.view c.args.self.now.read in
-    let w = g.R.DeRead.view c.read-bytes.new.self.read in
+    let w = g.R.DeRead.view c.read_bytes.new.self.read in
     record {
-      reads = copied_eight c.args.self.now.end c.args.n v w c.requires g.R.DeRead.lends c.in-ok-taken.taken c.read-bytes.new.buf c.in-default.not-Lent h.reads h.puts;
+      reads = copied_eight c.args.self.now.end c.args.n v w c.requires g.R.DeRead.lends c.in_ok-taken.taken c.read_bytes.new.buf c.in_default.not-Lent h.reads h.puts;
       same = h.same;
     }

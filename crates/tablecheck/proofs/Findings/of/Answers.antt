@@ -17,4 +17,4 @@ returns c =
     agree c.args.bytes.now _ _ _ _ _ _ _ _ _ slice.0 slice.1 slice.2 parts
     (ap (λ x. x.first.ending) io.0 ∙ ap (λ x. x.ending) chain.0 ∙ front.2)
     (ap (λ x. x.second.ending) io.0 ∙ ap (λ x. x.ending) chain.1 ∙ back.2)
-    io.2 io.1 _ _ _ _ c.header-of-from-slice.ensures.1 c.header-of-from-pieces.ensures.1
+    io.2 io.1 _ _ _ _ c.header_of-from_slice.ensures.1 c.header_of-from_pieces.ensures.1

@@ -3,8 +3,8 @@ use Rattle.std.proofs.lemmas.Slice.{overwrites}
 use Rattle.source.proofs.Reading.{rest_octets, given, some_portioned}
 use Rattle.source.proofs.slice.SliceSourceSource.read.Goals as goal
 
-pub invariant-of-self : goal.invariant-of-self
-invariant-of-self c = (rest_octets c.args.self.now.rest.now c.min-n.result c.args.self.now.octets, tt)
+pub invariant_of-self : goal.invariant_of-self
+invariant_of-self c = record { octets = rest_octets c.args.self.now.rest.now c.min-n.result c.args.self.now.octets }
 
 pub returns : goal.returns
 returns c =
