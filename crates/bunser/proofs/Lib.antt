@@ -4,3 +4,5 @@ pub mod Asking
 pub mod Integers
 pub mod Headers
 pub mod Texts
+pub mod Pieces
+pub mod Whole

@@ -1,3 +1,4 @@
 pub mod Outcome
 pub mod Reads
 pub mod Texts
+pub mod Passing

@@ -12,6 +12,7 @@ use format::tags::{FARTHEST, MAGIC};
 use format::width::Width;
 use read::{DeRead, Fault, Taken};
 
+pub mod passing;
 pub mod text;
 
 /// What the header of a PDU declares.

@@ -1,5 +1,5 @@
 -- A call by value, what it answers, and what can be seen then.
-use Rattle.std.specs.Prelude.{◌≡◌, ℕ, Bool, List, [], length, replicate, Some, None, Ok, Err, Option, Result}
+use Rattle.std.specs.Prelude.{◌≡◌, ℕ, Bool, List, [], replicate, Some, None, Ok, Err, Option, Result}
 use Rattle.source.specs.Feed.{fronted}
 use Rattle.format.specs.declared.refusal.Refusal.{Refusal}
 use Rattle.de.specs.declared.event.Event.{Event}
@@ -10,7 +10,7 @@ use Rattle.de.specs.declared.entry.Call.{Call}
 use Rattle.de.specs.declared.entry.Call.TheVariants as call
 use Rattle.de.specs.declared.entry.Answer.{Answer}
 use Rattle.de.specs.declared.entry.Answer.TheVariants as answer
-use Rattle.de.specs.Calls.{State, Answered, Meets, open_call, next_call, next_puts, SkipCall, close_call, tally}
+use Rattle.de.specs.Calls.{State, Meets, open_call, next_call, next_puts, SkipCall, close_call, tally}
 
 -- one call, what it answered, the reader's count then, what the question then tells, and the text buffer then
 pub record Moment : Type 0 where

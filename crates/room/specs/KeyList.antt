@@ -1,6 +1,5 @@
 -- What the read of a template's key list gives and leaves of the reader, or how it refuses.
 use Rattle.std.specs.Prelude.{ℕ, zero, suc, ◌+◌, ◌-◌, Bool, true, false, cond, List, [], ◌∷◌, take, Some, None, Option, ◌==◌, nat_le, nat_lt}
-use Rattle.read.specs.declared.Taken.{Taken}
 use Rattle.read.specs.Reader.{View, discarded}
 use Rattle.format.specs.declared.refusal.ReadError.{ReadError}
 use Rattle.format.specs.declared.refusal.ReadError.TheVariants.{End, Stop, Room, Short, Source, Magic, Byte, Negative, TooLong, NotText}

@@ -1,5 +1,5 @@
 -- A text that is passed over: a reader that copies draws it in pieces of 64 bytes.
-use Rattle.std.specs.Prelude.{ℕ, ◌*◌, ◌/◌, Bool, true, false, cond, length, Some, None, Ok, Err, Option, Result}
+use Rattle.std.specs.Prelude.{ℕ, ◌*◌, ◌/◌, Bool, true, false, length, None, Ok, Err, Option, Result}
 use Rattle.read.specs.declared.Taken.{Taken}
 use Rattle.read.specs.Reader.{View, advanced}
 use Rattle.format.specs.declared.refusal.ReadError.{ReadError}
@@ -38,9 +38,9 @@ passing lends (got t v) = got tt v
 passing lends (bad e v) = bad e (drawn_over lends e v)
 
 -- a text, which has to be UTF-8 where it is checked
-abbrev pub whole_read : Bool → Bool → Option ℕ → ℕ → View → Outcome ReadError Taken
-whole_read true lends end n v = text_read lends end None n v
-whole_read false lends end n v = bytes_read lends end None n v
+abbrev pub whole_read : Bool → Bool → Option ℕ → Option ℕ → ℕ → View → Outcome ReadError Taken
+whole_read true lends end space n v = text_read lends end space n v
+whole_read false lends end space n v = bytes_read lends end space n v
 
 unfoldable pub pass_read : Bool → Bool → Option ℕ → ℕ → View → Outcome ReadError Unit
-pass_read checked lends end n v = passing lends (whole_read checked lends end n v)
+pass_read checked lends end n v = passing lends (whole_read checked lends end None n v)

@@ -1,22 +1,21 @@
 -- A text that is drawn in pieces comes to what one read of it would.
-use Rattle.std.proofs.Common.{◌≡◌, ℕ, zero, suc, ◌+◌, ◌-◌, ◌*◌, ◌/◌, ◌<◌, ◌≤◌, Bool, true, false, cond, ◌&&◌, eqb, ltb, List, [], ◌∷◌, ◌++◌, length, take, drop, replicate, Some, None, Ok, Err, Option, Result, sym, refl, ap, ◌∙◌, subst, append-nil, add-zero, add_assoc, arith, length-drop, length-take, take-take, drop-drop, take-add}
-use lib.ListN.{length-replicate}
-use Rattle.std.proofs.lemmas.Bool.{true≢false, eq-eqb, ne_eqb, le-ltb, lt-ltb, ltb-false, ltb-true}
-use Rattle.std.proofs.lemmas.List.{take_all, take_at, drop_all}
+use Rattle.std.proofs.Common.{◌≡◌, ℕ, zero, suc, ◌+◌, ◌-◌, ◌*◌, ◌/◌, ◌<◌, ◌≤◌, Bool, true, false, cond, eqb, ltb, List, length, take, drop, Some, None, IsErrAnd, Ok, Err, Option, Result, sym, refl, ap, ◌∙◌, subst, add-zero, add_assoc, arith, length-drop, length-take, drop-drop, take-add}
+use Rattle.std.proofs.lemmas.Bool.{ne_eqb, le-ltb, lt-ltb, ltb-false, ltb-true}
+use Rattle.std.proofs.lemmas.List.{take_all, take_at}
 use Rattle.utf8.specs.Utf8.{Await, character, utf8}
 use Rattle.utf8.specs.Pieces.{all_turned, complete}
 use Rattle.utf8.proofs.Turning.{turned_on, judged_in_pieces}
 use Rattle.read.specs.declared.Taken.{Taken}
 use Rattle.read.specs.declared.Taken.TheVariants.{Copied}
-use Rattle.read.specs.Reader.{View, Spent, past, cramped, room, shortfall, refusal, advanced, lies, put}
+use Rattle.read.specs.Reader.{View, Spent, past, room, shortfall, advanced, put}
 use Rattle.read.specs.declared.Fault.TheVariants as fault
 use Rattle.format.specs.declared.refusal.ReadError.{ReadError}
-use Rattle.format.specs.declared.refusal.ReadError.TheVariants.{Short, Source, Room, NotText}
-use Rattle.bunser.specs.Outcome.{Outcome, got, bad, and_then, error_of, judged, asked, answer, ReadLeaves, Tells}
+use Rattle.format.specs.declared.refusal.ReadError.TheVariants.{Short, Source, NotText}
+use Rattle.bunser.specs.Outcome.{got, bad, and_then, error_of, judged, asked, answer, ReadLeaves, Tells}
 use Rattle.bunser.specs.Reads.{bytes_read, fronts}
 use Rattle.bunser.specs.Texts.{textual, text_read}
-use Rattle.bunser.specs.Passing.{verdict_of, whole_pieces, drawn_over, passing, whole_read, pass_read}
-use Rattle.bunser.proofs.Telling.{ok_err}
+use Rattle.bunser.specs.Passing.{verdict_of, passing, whole_read, pass_read}
+use Rattle.bunser.proofs.Telling.{ok_err, err_is}
 use Rattle.bunser.proofs.Asking.{granted, Given, given}
 
 pub advanced_none : (v : View) → v ≡ advanced false 0 v
@@ -122,7 +121,7 @@ module _ (end : Option ℕ) (n : ℕ) (v w : View) (left : ℕ) (a : Await) (d :
           let q = d.whole in
           omega arith
 
-      whole_refused : (checked : Bool) (f : ReadError) → length w.coming < k → error_of (shortfall v.ending) ≡ f → whole_read checked false end n v ≡ bad f v
+      whole_refused : (checked : Bool) (f : ReadError) → length w.coming < k → error_of (shortfall v.ending) ≡ f → whole_read checked false end None n v ≡ bad f v
       unfolding text_read
       whole_refused true f short same =
           let l = came_long in let t = d.there in let r = d.rest in
@@ -138,7 +137,7 @@ module _ (end : Option ℕ) (n : ℕ) (v w : View) (left : ℕ) (a : Await) (d :
           there_again : w ≡ advanced false (64 * (length v.coming / 64)) v
           there_again = d.reader ∙ ap (λ m. advanced false m v) (sym (quotient short))
 
-          go : (b : Bool) → eqb v.ending 0 ≡ b → Tells (passing false (whole_read checked false end n v)) (Err e) u
+          go : (b : Bool) → eqb v.ending 0 ≡ b → Tells (passing false (whole_read checked false end None n v)) (Err e) u
           go true z =
               let s : error_of (shortfall v.ending) ≡ Short = ap (λ b. error_of (cond b fault.Short (fault.Source v.ending))) z in
               subst (λ m. Tells (passing false m) (Err e) u) (sym (whole_refused checked Short short s)) (ap Err (is ∙ s), subst (λ x. Spent x u) there_again (subst (λ e. ReadLeaves e w u) (is ∙ s) leaves))
@@ -221,3 +220,23 @@ module _ (end : Option ℕ) (n : ℕ) (v w : View) (left : ℕ) (a : Await) (d :
         reader = moved_on 64 few more u taken h;
         state = turned_by 64 few more u taken h b piece' (sym (take_all 64 piece' (omega arith)) ∙ piece_is 64 few more u taken h piece piece' at) is;
       }
+
+-- a read of a piece of a reader that copies
+module _ (lends : Bool) (end end' : Option ℕ) (piece : List ℕ) (k : ℕ) (w : View) (copies : lends ≡ false) (ends : end ≡ end') (long : length piece ≡ 64) where
+  pub piece_read : (r : Result Taken ReadError) (u : View) → Tells (bytes_read lends end (room lends piece) k w) r u → Tells (bytes_read false end' (Some 64) k w) r u
+  piece_read r u h =
+      subst (λ m. Tells (bytes_read false end' (Some m) k w) r u) long
+      (subst (λ x. Tells (bytes_read false x (Some (length piece)) k w) r u) ends
+      (subst (λ b. Tells (bytes_read b end (room b piece) k w) r u) copies h))
+
+  pub piece_put : (piece' : List ℕ) → piece' ≡ put lends (fronts (asked end w (room lends piece) k) k w) piece → piece' ≡ put false (fronts (asked end' w (Some 64) k) k w) piece
+  piece_put piece' at =
+      at
+      ∙ ap (λ b. put b (fronts (asked end w (room b piece) k) k w) piece) copies
+      ∙ ap (λ x. put false (fronts (asked x w (Some (length piece)) k) k w) piece) ends
+      ∙ ap (λ m. put false (fronts (asked end' w (Some m) k) k w) piece) long
+
+-- a `?` of a reader that copies
+pub of_copying : (checked lends : Bool) (end : Option ℕ) (n : ℕ) (v : View) (e : ReadError) (r : Result Unit ReadError) (u : View) → lends ≡ false → IsErrAnd r (λ f. f ≡ e) →
+    Tells (pass_read checked false end n v) (Err e) u → Tells (pass_read checked lends end n v) r u
+of_copying checked lends end n v e r u copies by h = subst (λ b. Tells (pass_read checked b end n v) r u) (sym copies) (subst (λ r. Tells (pass_read checked false end n v) r u) (sym (err_is r e by)) h)

@@ -1,4 +1,4 @@
-use Rattle.std.proofs.Common.{◌≡◌, ◌+◌, ◌-◌, length}
+use Rattle.std.proofs.Common.{◌≡◌, length}
 use Rattle.utf8.specs.Pieces.{await}
 use Rattle.bunser.proofs.Pieces.{Drawn}
 use Rattle.bunser.proofs.Bunser.pass_pieces.Given as goal

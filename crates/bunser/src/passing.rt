@@ -1,9 +1,9 @@
 //! Texts that are passed over, of which nothing is kept.
-ghost use Rattle.std.specs.Prelude.{◌≡◌, ◌+◌, ◌≤◌, true, false, length};
+ghost use Rattle.std.specs.Prelude.{◌≡◌, ◌+◌, true, false, []};
 ghost use Rattle.utf8.specs.Pieces.{await, complete};
-ghost use Rattle.read.specs.Reader.{past};
+ghost use Rattle.read.specs.Reader.{past, room};
 ghost use Rattle.bunser.specs.Outcome.{Tells};
-ghost use Rattle.bunser.specs.Passing.{verdict_of, pass_read};
+ghost use Rattle.bunser.specs.Passing.{verdict_of, whole_read, pass_read};
 
 use super::Bunser;
 use format::refusal::ReadError;
@@ -43,21 +43,30 @@ impl<R: DeRead> Bunser<R> {
         verdict(checked, awaited.after(&piece[0..left]))
     }
 
+    // A text in one read without a buffer, in which a reader that copies has no room for it.
+    fn take_whole(&mut self, n: usize, checked: bool) -> Result<Taken, ReadError>
+        ensures reads { Tells (whole_read checked R.DeRead.lends self.old.end (room R.DeRead.lends []) n (R.DeRead.view self.old.read)) result (R.DeRead.view self.new.read) }
+        ensures same { self.new.end ≡ self.old.end }
+    {
+        let mut none = [0u8; 0];
+        if checked {
+            self.next_text(n, &mut none)
+        } else {
+            self.read_bytes(n, &mut none)
+        }
+    }
+
     /// Passes a text of n bytes over: in one read where the reader lends, else in pieces.
     pub fn pass_text(&mut self, n: usize, checked: bool) -> Result<(), ReadError>
         ensures reads { Tells (pass_read checked R.DeRead.lends self.old.end n (R.DeRead.view self.old.read)) result (R.DeRead.view self.new.read) }
         ensures same { self.new.end ≡ self.old.end }
     {
-        let mut none = [0u8; 0];
-        let whole = if checked {
-            self.next_text(n, &mut none)
-        } else {
-            self.read_bytes(n, &mut none)
-        };
-        match whole {
+        match self.take_whole(n, checked) {
             Ok(_) => Ok(()),
-            Err(ReadError::Room) => self.pass_pieces(n, checked),
-            Err(error) => Err(error),
+            Err(error) => match error {
+                ReadError::Room => self.pass_pieces(n, checked),
+                _ => Err(error),
+            },
         }
     }
 }
