@@ -1,4 +1,4 @@
-//! Numbers and the header of a PDU, over any reader.
+//! Numbers, texts and the header of a PDU, over any reader.
 #![tactic(auto)]
 
 ghost use Rattle.std.specs.Prelude.{◌≡◌, ◌+◌, ◌-◌, ◌*◌, ◌<◌, ◌≤◌, ◌++◌, length, take, drop, IfOk, Some, None};

@@ -168,12 +168,12 @@ abbrev pub SkipTurn : Option Extent → Bool → State → Result ℕ Refused �
 SkipTurn None lends s r t = (r ≡ Err (refused_of (here cause.OutOfTurn s))) × (t ≡ telling (here cause.OutOfTurn s) s)
 SkipTurn (Some e) lends s r t = Skipped lends s r t
 
-abbrev pub skip_by : Option Refusal → Bool → State → Result ℕ Refused → State → Type 0
-skip_by (Some f) lends s r t = (r ≡ Err (refused_of f)) × (t ≡ telling f s)
-skip_by None lends s r t = SkipTurn s.pdu lends s r t
+abbrev pub SkipBy : Option Refusal → Bool → State → Result ℕ Refused → State → Type 0
+SkipBy (Some f) lends s r t = (r ≡ Err (refused_of f)) × (t ≡ telling f s)
+SkipBy None lends s r t = SkipTurn s.pdu lends s r t
 
 abbrev pub SkipCall : Bool → State → Result ℕ Refused → State → Type 0
-SkipCall lends s r t = skip_by s.latched lends s r t
+SkipCall lends s r t = SkipBy s.latched lends s r t
 
 -- ---- close
 

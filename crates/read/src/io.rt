@@ -33,7 +33,7 @@ fn short_by(ending: u16) -> Fault
 
 // The source's next byte.
 fn fetch_one<S: Source>(source: &mut S) -> Result<u8, Fault>
-    ensures { FetchOne (S.feed source.old) result (S.feed source.new) }
+    ensures { FetchOne (S.Source.feed source.old) result (S.Source.feed source.new) }
 {
     let mut one = [0u8; 1];
     match read_exact(source, &mut one) {
@@ -54,7 +54,7 @@ fn wipe(part: &mut [u8], ending: u16) -> Fault
 // Fills the part of the buffer straight from the source, behind the byte that was held.
 fn fetch_behind<S: Source>(source: &mut S, held: u8, part: &mut [u8]) -> Result<(), Fault>
     requires { 0 < length part.old }
-    ensures { Fetch (Some held) (S.feed source.old) part.old result (S.feed source.new) part.new }
+    ensures { Fetch (Some held) (S.Source.feed source.old) part.old result (S.Source.feed source.new) part.new }
 {
     part[0] = held;
     if let Err(ending) = read_exact(source, &mut part[1..]) {
@@ -65,7 +65,7 @@ fn fetch_behind<S: Source>(source: &mut S, held: u8, part: &mut [u8]) -> Result<
 
 // Fills the part of the buffer straight from the source.
 fn fetch<S: Source>(source: &mut S, part: &mut [u8]) -> Result<(), Fault>
-    ensures { Fetch None (S.feed source.old) part.old result (S.feed source.new) part.new }
+    ensures { Fetch None (S.Source.feed source.old) part.old result (S.Source.feed source.new) part.new }
 {
     if let Err(ending) = read_exact(source, part) {
         return Err(wipe(part, ending));

@@ -168,7 +168,7 @@ pub record Whole (lends : Bool) (v : View) (start size : ℕ) (w : Value) : Type
   pub clear : past v.stop (start + size) ≡ false
 
 -- the call after these events
-pub record Goes_on (lends : Bool) (v : View) (start size : ℕ) (p : Phase) (es : List Event) (m : Moment) : Type 0 where
+pub record GoesOn (lends : Bool) (v : View) (start size : ℕ) (p : Phase) (es : List Event) (m : Moment) : Type 0 where
   pub closes : p ≡ running → m.call ≡ call.Close start size → Closes v start size es m.answer
   pub reads : p ≡ running → (w : Value) → Whole lends v start size w → Reads lends w es m.call m.answer
 
@@ -242,7 +242,7 @@ pub record PduStory (lends : Bool) (v : View) (h : List Moment) (m : Moment) (k 
   pub at : ℕ
   pub passed : Passed v (h ++ (m ∷ [])) start size phase es at
   pub truthful : Truthful v start size phase es at m
-  pub goes_on : (n : Moment) (l : List Moment) → k ≡ n ∷ l → Goes_on lends v start size phase es n
+  pub goes_on : (n : Moment) (l : List Moment) → k ≡ n ∷ l → GoesOn lends v start size phase es n
 
 abbrev pub Law : Bool → View → List Moment → Type 0
 Law lends v told = (h : List Moment) (m : Moment) (k : List Moment) → told ≡ h ++ (m ∷ k) →

@@ -23,7 +23,7 @@ pub trait Source {
 /// Fills the whole buffer, asking each time for all that is still wanted. Where the source ends
 /// first the answer is its ending, 0 for a clean one.
 pub fn read_exact<S: Source>(source: &mut S, buf: &mut [u8]) -> Result<(), u16>
-    ensures { Fill (S.feed source.old) buf.old result (S.feed source.new) buf.new }
+    ensures { Fill (S.Source.feed source.old) buf.old result (S.Source.feed source.new) buf.new }
 {
     let mut at = 0;
     while at < buf.len() {
