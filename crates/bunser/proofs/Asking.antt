@@ -1,15 +1,14 @@
 -- When a read is granted, and what it then gives.
-use Rattle.std.proofs.Common.{◌≡◌, ℕ, ◌+◌, ◌-◌, ◌≤◌, Bool, true, false, cond, ltb, List, ◌++◌, length, take, drop, replicate, IsErrAnd, Some, None, Ok, Err, Option, Result, sym, refl, ap, ◌∙◌, subst, arith, length-take}
+use Rattle.std.proofs.Common.{◌≡◌, ℕ, ◌+◌, ◌-◌, ◌≤◌, Bool, true, false, cond, ltb, List, ◌++◌, length, take, drop, replicate, IsErrAnd, Some, None, Ok, Err, Option, Result, sym, refl, ap, ◌∙◌, subst, arith, length-take, length-append}
 use Rattle.std.proofs.lemmas.Bool.{le-ltb, ltb-false}
-use Rattle.std.proofs.lemmas.List.{take_all, drop_at, drop-replicate}
+use Rattle.std.proofs.lemmas.List.{take_all, drop_at, drop-replicate, append-nil, length-replicate}
 use Rattle.read.specs.declared.Fault.{Fault}
 use Rattle.read.specs.declared.Fault.TheVariants as fault
 use Rattle.read.specs.declared.Taken.{Taken}
-use Rattle.read.specs.declared.Taken.TheVariants.{Lent}
 use Rattle.read.specs.Reader.{View, past, room, cramped, shortfall, refusal, advanced, lies, put}
 use Rattle.format.specs.declared.refusal.ReadError.{ReadError}
 use Rattle.bunser.specs.Outcome.{judged, asked, answer, Tells}
-use Rattle.bunser.specs.Reads.{bytes_read, fronts, padded, eight_read}
+use Rattle.bunser.specs.Reads.{bytes_read, fronts, kept_or, lent_or, array_read}
 use Rattle.bunser.proofs.Telling.{ok_err, err_is}
 
 no_some : {A : Type 0} {a : A} {P : Type 0} → ◌≡◌ {A = Option A} (Some a) None → P
@@ -51,68 +50,47 @@ pub answer_stop : {A B : Type 0} (o : Option ReadError) (v : View) (x : A) (y : 
 answer_stop None v x y t e w r h k = ok_err (sym h.0)
 answer_stop (Some f) v x y t e w r h k = let z : e ≡ f = cc h.0 in (err_is r e k ∙ ap Err z, h.1)
 
--- eight bytes are room enough
-pub roomy : (lends : Bool) (end : Option ℕ) (v : View) (n : ℕ) → n ≤ 8 → asked end v (room lends (replicate 8 0)) n ≡ asked end v None n
-roomy true end v n h = refl
-roomy false end v n h = ap (λ b. judged (past end (v.count + n)) (cond (past v.stop (v.count + n)) (Some fault.Stop) (cond b (Some fault.Room) (cond (ltb (length v.coming) n) (Some (shortfall v.ending)) None)))) (le-ltb 8 n h)
+-- n bytes are room enough for n
+roomy : (lends : Bool) (end : Option ℕ) (v : View) (n : ℕ) → asked end v (room lends (replicate n 0)) n ≡ asked end v None n
+roomy true end v n = refl
+roomy false end v n =
+    let long : length {A = ℕ} (replicate n 0) ≡ n = length-replicate n 0 in
+    let wide : n ≤ length {A = ℕ} (replicate n 0) = omega (arith, long) in
+    ap (λ b. judged (past end (v.count + n)) (cond (past v.stop (v.count + n)) (Some fault.Stop) (cond b (Some fault.Room) (cond (ltb (length v.coming) n) (Some (shortfall v.ending)) None)))) (le-ltb (length (replicate n 0)) n wide)
 
-module _ (end : Option ℕ) (n : ℕ) (v w : View) (few : n ≤ 8) where
-  zeros_left : drop {A = ℕ} n (replicate 8 0) ≡ replicate (8 - n) 0
-  zeros_left = drop-replicate n 8 0
+module _ (lends : Bool) (end : Option ℕ) (n : ℕ) (v w : View) where
+  pub array_stop : (e : ReadError) (r : Result (List ℕ) ReadError) → Tells (bytes_read lends end (room lends (replicate n 0)) n v) (Err e) w → IsErrAnd r (λ f. f ≡ e) → Tells (array_read lends end n v) r w
+  array_stop e r h k =
+      answer_stop (asked end v None n) v (lies lends v) (take n v.coming) (advanced lends n v) e w r
+      (subst (λ o. Tells (answer o v (lies lends v) (advanced lends n v)) (Err e) w) (roomy lends end v n) h) k
 
-  tell_eight : (lends : Bool) (taken : Taken) (bytes : List ℕ) → Given (asked end v (room lends (replicate 8 0)) n) (lies lends v) (advanced lends n v) taken w → bytes ≡ padded n v.coming →
-      Tells (eight_read lends end n v) (Ok bytes) w
-  tell_eight lends taken bytes g is =
-      give (asked end v None n) v (padded n v.coming) (advanced lends n v) bytes w (record { granted_it = sym (roomy lends end v n few) ∙ g.granted_it; value = is; left = g.left })
+  module _ (taken : Taken) (kept : length v.kept ≡ cond lends v.count 0) (h : Tells (bytes_read lends end (room lends (replicate n 0)) n v) (Ok taken) w) where
+    g : Given (asked end v (room lends (replicate n 0)) n) (lies lends v) (advanced lends n v) taken w
+    g = given (asked end v (room lends (replicate n 0)) n) v (lies lends v) (advanced lends n v) taken w h
 
-  pub eight_stop : (lends : Bool) (e : ReadError) (r : Result (List ℕ) ReadError) → Tells (bytes_read lends end (room lends (replicate 8 0)) n v) (Err e) w → IsErrAnd r (λ f. f ≡ e) → Tells (eight_read lends end n v) r w
-  eight_stop lends e r h k =
-      answer_stop (asked end v None n) v (lies lends v) (padded n v.coming) (advanced lends n v) e w r
-      (subst (λ o. Tells (answer o v (lies lends v) (advanced lends n v)) (Err e) w) (roomy lends end v n few) h) k
+    long : length (take n v.coming) ≡ n
+    long = let there = granted end v (room lends (replicate n 0)) n g.granted_it in rw length-take (omega arith)
 
-  -- a reader that has lent keeps all that it took
-  pub lent_all : (lends : Bool) (taken : Taken) (p : ℕ) → taken ≡ Lent p → length w.kept ≡ cond lends w.count 0 → Tells (bytes_read lends end (room lends (replicate 8 0)) n v) (Ok taken) w →
-      (n ≤ w.count) × (length w.kept ≡ w.count)
-  lent_all false taken p is kept h =
-      let g = given (asked end v (room false (replicate 8 0)) n) v (lies false v) (advanced false n v) taken w h in
-      let z : ◌≡◌ {A = ℕ} 0 1 = cc g.value in
-      absurd (omega arith)
-  lent_all true taken p is kept h =
-      let g = given (asked end v (room true (replicate 8 0)) n) v (lies true v) (advanced true n v) taken w h in
-      let e : w.count ≡ v.count + n = ap (λ x. x.count) g.left in
-      (omega arith, kept)
+    -- what is lent, or what was copied, is what was to come
+    came : (lends : Bool) → length v.kept ≡ cond lends v.count 0 → lent_or lends (advanced lends n v) (lies lends v) (put lends (take n v.coming) (replicate n 0)) ≡ take n v.coming
+    came true kept =
+        let wide : v.count + length {A = ℕ} (replicate n 0) ≤ length (v.kept ++ take n v.coming) = omega (arith, length-append v.kept (take n v.coming), long, kept, length-replicate {A = ℕ} n 0) in
+        ap (λ b. kept_or (cond b None (Some (take (length {A = ℕ} (replicate n 0)) (drop v.count (v.kept ++ take n v.coming))))) (replicate n 0)) (le-ltb (length (v.kept ++ take n v.coming)) (v.count + length {A = ℕ} (replicate n 0)) wide)
+        ∙ ap (λ k. take k (drop v.count (v.kept ++ take n v.coming))) (length-replicate {A = ℕ} n 0)
+        ∙ ap (take n) (drop_at v.kept (take n v.coming) v.count kept)
+        ∙ take_all n (take n v.coming) (omega (arith, long))
+    came false kept =
+        let none : n - n ≡ 0 = omega arith in
+        ap (λ k. take n v.coming ++ drop k (replicate n 0)) long
+        ∙ ap (λ l. take n v.coming ++ l) (drop-replicate n n 0 ∙ ap (λ k. replicate k 0) none)
+        ∙ append-nil (take n v.coming)
 
-  pub lent_eight : (lends : Bool) (taken : Taken) (p : ℕ) (blank bytes : List ℕ) → taken ≡ Lent p → length v.kept ≡ cond lends v.count 0 → Tells (bytes_read lends end (room lends (replicate 8 0)) n v) (Ok taken) w →
-      blank ≡ put lends (fronts (asked end v (room lends (replicate 8 0)) n) n v) (replicate 8 0) →
-      bytes ≡ take n (drop (w.count - n) w.kept) ++ drop n blank → Tells (eight_read lends end n v) (Ok bytes) w
-  lent_eight false taken p blank bytes lent kept h at is =
-      let g = given (asked end v (room false (replicate 8 0)) n) v (lies false v) (advanced false n v) taken w h in
-      let z : ◌≡◌ {A = ℕ} 0 1 = cc g.value in
-      absurd (omega arith)
-  lent_eight true taken p blank bytes lent kept h at is =
-      let g = given (asked end v (room true (replicate 8 0)) n) v (lies true v) (advanced true n v) taken w h in
-      let short : length (take n v.coming) ≤ n = rw length-take (omega arith) in
-      let from : (v.count + n) - n ≡ v.count = omega arith in
-      tell_eight true taken bytes g
-      (is
-      ∙ ap (λ x. take n (drop (x.count - n) x.kept) ++ drop n blank) g.left
-      ∙ ap (λ k. take n (drop k (v.kept ++ take n v.coming)) ++ drop n blank) from
-      ∙ ap (λ l. take n l ++ drop n blank) (drop_at v.kept (take n v.coming) v.count kept)
-      ∙ ap (λ l. l ++ drop n blank) (take_all n (take n v.coming) short)
-      ∙ ap (λ l. take n v.coming ++ drop n l) at
-      ∙ ap (λ l. take n v.coming ++ l) zeros_left)
-
-  pub copied_eight : (lends : Bool) (taken : Taken) (bytes : List ℕ) → ((p : ℕ) → taken ≡ Lent p → ⊥) → Tells (bytes_read lends end (room lends (replicate 8 0)) n v) (Ok taken) w →
-      bytes ≡ put lends (fronts (asked end v (room lends (replicate 8 0)) n) n v) (replicate 8 0) → Tells (eight_read lends end n v) (Ok bytes) w
-  copied_eight true taken bytes not_lent h is =
-      let g = given (asked end v (room true (replicate 8 0)) n) v (lies true v) (advanced true n v) taken w h in
-      absurd (not_lent v.count g.value)
-  copied_eight false taken bytes not_lent h is =
-      let g = given (asked end v (room false (replicate 8 0)) n) v (lies false v) (advanced false n v) taken w h in
-      let there = granted end v (room false (replicate 8 0)) n g.granted_it in
-      let long : length (take n v.coming) ≡ n = rw length-take (omega arith) in
-      tell_eight false taken bytes g
-      (is
-      ∙ ap (λ o. put false (fronts o n v) (replicate 8 0)) g.granted_it
-      ∙ ap (λ k. take n v.coming ++ drop k (replicate 8 0)) long
-      ∙ ap (λ l. take n v.coming ++ l) zeros_left)
+    pub array_told : (blank bytes : List ℕ) → blank ≡ put lends (fronts (asked end v (room lends (replicate n 0)) n) n v) (replicate n 0) → bytes ≡ lent_or lends w taken blank → Tells (array_read lends end n v) (Ok bytes) w
+    array_told blank bytes at is =
+        give (asked end v None n) v (take n v.coming) (advanced lends n v) bytes w
+        (record {
+          granted_it = sym (roomy lends end v n) ∙ g.granted_it;
+          value = is ∙ ap (λ x. lent_or lends x taken blank) g.left ∙ ap (λ t. lent_or lends (advanced lends n v) t blank) g.value
+              ∙ ap (lent_or lends (advanced lends n v) (lies lends v)) (at ∙ ap (λ o. put lends (fronts o n v) (replicate n 0)) g.granted_it) ∙ came lends kept;
+          left = g.left;
+        })

@@ -1,33 +1,41 @@
 -- How the parts of a header are told.
-use Rattle.std.proofs.Common.{◌≡◌, ℕ, ◌+◌, ◌<◌, ◌≤◌, Bool, true, false, cond, List, get_or, take, IsErrAnd, IfOk, Some, None, Ok, Err, Option, Result, sym, refl, ap, ◌∙◌, subst, arith}
+use Rattle.std.proofs.Common.{◌≡◌, ℕ, ◌+◌, ◌≤◌, Bool, true, false, cond, not, eqb, ◌&&◌, List, get_or, take, IsErrAnd, IfOk, Some, None, Ok, Err, Option, Result, sym, refl, ap, ◌∙◌, subst, arith, w32}
+use Rattle.std.specs.Int.{from_le_bytes}
 use Rattle.std.proofs.lemmas.Bool.{ltb-false}
-use Rattle.source.specs.Bytes.{Octets}
 use Rattle.read.specs.Reader.{View, past, advanced}
-use Rattle.format.specs.declared.width.Width.TheVariants.{W32}
 use Rattle.format.specs.declared.refusal.ReadError.{ReadError}
 use Rattle.format.specs.declared.refusal.ReadError.TheVariants.{Magic, TooLong}
 use Rattle.format.specs.declared.refusal.Refusal.{Refusal}
 use Rattle.format.specs.Integers.{little_endian}
 use Rattle.bunser.specs.declared.Header.{Header}
 use Rattle.bunser.specs.Outcome.{Outcome, got, bad, and_then, at, placed, placed_result, asked, answer, RefusalLeaves, Tells, TellsAt}
-use Rattle.bunser.specs.Reads.{padded, eight_digits, eight_read, count_read, magical, is_magic, magic_read, capabilities_read, bounded, length_read, header_read}
+use Rattle.bunser.specs.Reads.{array_read, count_read, magical, is_magic, magic_read, capabilities_read, bounded, length_read, header_read}
 use Rattle.bunser.proofs.Telling.{told_ok, told_placed, then_ok, then_stop, on_true, on_false, ok_err, err_is}
-use Rattle.bunser.proofs.Asking.{given, give, answer_stop}
-use Rattle.bunser.proofs.Integers.{eight_bits, eight_below}
+use Rattle.bunser.proofs.Bytes.{le_sum}
+use Rattle.bunser.proofs.Integers.{number_told, number_stop}
 
 -- a placed read that gave something gave it unplaced
 pub unplaced : {A : Type 0} (p : ℕ) (a : A) (r : Result A ReadError) → Ok a ≡ placed_result p r → r ≡ Ok a
 unplaced p a (Ok b) e = let k : b ≡ a = cc in ap Ok k
 unplaced p a (Err f) e = ok_err e
 
+-- as two bytes are compared with the magic
+pub alike : (bytes : List ℕ) (differs : Bool) → differs ≡ not (eqb (get_or bytes 0 0) 0 && (eqb (get_or bytes 1 0) 2 && true)) → magical (get_or bytes 0 0) (get_or bytes 1 0) ≡ not differs
+alike bytes differs e = go (eqb (get_or bytes 0 0) 0) (eqb (get_or bytes 1 0) 2) differs e
+  where
+    go : (a b c : Bool) → c ≡ not (a && (b && true)) → a && b ≡ not c
+    go true true c e = ap not (sym e)
+    go true false c e = ap not (sym e)
+    go false b c e = ap not (sym e)
+
 module _ (lends : Bool) (end : Option ℕ) (v w : View) (p : ℕ) (here : p ≡ v.count) where
-  module _ (r : Result (List ℕ) ReadError) (reads : Tells (eight_read lends end 2 v) r w) where
-    bytes_told : (s : Result (List ℕ) Refusal) → s ≡ placed_result p r → TellsAt (placed v.count (eight_read lends end 2 v)) s w
-    bytes_told s is = told_placed (eight_read lends end 2 v) p v.count r s w here reads is
+  module _ (r : Result (List ℕ) ReadError) (reads : Tells (array_read lends end 2 v) r w) where
+    bytes_told : (s : Result (List ℕ) Refusal) → s ≡ placed_result p r → TellsAt (placed v.count (array_read lends end 2 v)) s w
+    bytes_told s is = told_placed (array_read lends end 2 v) p v.count r s w here reads is
 
     pub magic_stop : (f : Refusal) (s : Result Unit Refusal) → Err f ≡ placed_result p r → IsErrAnd s (λ e. e ≡ f) → TellsAt (magic_read lends end v) s w
     unfolding magic_read
-    magic_stop f s is by = then_stop RefusalLeaves (placed v.count (eight_read lends end 2 v)) (is_magic v.count) f w s (bytes_told (Err f) is) by
+    magic_stop f s is by = then_stop RefusalLeaves (placed v.count (array_read lends end 2 v)) (is_magic v.count) f w s (bytes_told (Err f) is) by
 
     judge : List ℕ → Outcome Refusal Unit
     judge bytes = is_magic v.count bytes w
@@ -36,43 +44,34 @@ module _ (lends : Bool) (end : Option ℕ) (v w : View) (p : ℕ) (here : p ≡ 
         TellsAt (magic_read lends end v) (Err f) w
     unfolding magic_read
     magic_wrong bytes f is wrong by =
-        then_ok RefusalLeaves (placed v.count (eight_read lends end 2 v)) (is_magic v.count) bytes w (Err f) w (bytes_told (Ok bytes) is)
+        then_ok RefusalLeaves (placed v.count (array_read lends end 2 v)) (is_magic v.count) bytes w (Err f) w (bytes_told (Ok bytes) is)
         (on_false RefusalLeaves (magical (get_or bytes 0 0) (get_or bytes 1 0)) (got tt w) (bad (at (Magic (get_or bytes 0 0) (get_or bytes 1 0)) v.count) w) (Err f) w wrong
         (ap Err (by ∙ ap (at (Magic (get_or bytes 0 0) (get_or bytes 1 0))) here), refl))
 
     pub magic_right : (bytes : List ℕ) → Ok bytes ≡ placed_result p r → magical (get_or bytes 0 0) (get_or bytes 1 0) ≡ true → TellsAt (magic_read lends end v) (Ok tt) w
     unfolding magic_read
     magic_right bytes is right =
-        then_ok RefusalLeaves (placed v.count (eight_read lends end 2 v)) (is_magic v.count) bytes w (Ok tt) w (bytes_told (Ok bytes) is)
+        then_ok RefusalLeaves (placed v.count (array_read lends end 2 v)) (is_magic v.count) bytes w (Ok tt) w (bytes_told (Ok bytes) is)
         (on_true RefusalLeaves (magical (get_or bytes 0 0) (get_or bytes 1 0)) (got tt w) (bad (at (Magic (get_or bytes 0 0) (get_or bytes 1 0)) v.count) w) (Ok tt) w right (refl, refl))
 
-  module _ (r : Result (List ℕ) ReadError) (reads : Tells (eight_read lends end 4 v) r w) where
+  module _ (r : Result (List ℕ) ReadError) (reads : Tells (array_read lends end 4 v) r w) where
     pub capabilities_stop : (f : Refusal) (s : Result ℕ Refusal) → Err f ≡ placed_result p r → IsErrAnd s (λ e. e ≡ f) → TellsAt (capabilities_read lends end v) s w
     unfolding capabilities_read
     capabilities_stop f s is by = go r reads is
       where
-        go : (r : Result (List ℕ) ReadError) → Tells (eight_read lends end 4 v) r w → Err f ≡ placed_result p r → TellsAt (capabilities_read lends end v) s w
+        go : (r : Result (List ℕ) ReadError) → Tells (array_read lends end 4 v) r w → Err f ≡ placed_result p r → TellsAt (capabilities_read lends end v) s w
         go (Ok bytes) h is = ok_err (sym is)
         go (Err e) h is =
             let same : f ≡ at e p = cc in
             told_placed (answer (asked end v None 4) v (little_endian (take 4 v.coming)) (advanced lends 4 v)) p v.count (Err e) s w here
-            (answer_stop (asked end v None 4) v (padded 4 v.coming) (little_endian (take 4 v.coming)) (advanced lends 4 v) e w (Err e) h refl) (err_is s f by ∙ ap Err same)
+            (number_stop lends end 4 v w little_endian e (Err e) h refl) (err_is s f by ∙ ap Err same)
 
-    module _ (bytes : List ℕ) (is : Ok bytes ≡ placed_result p r) (bits : ℕ) (digits : bits ≡ eight_digits bytes) where
-      came : Tells (eight_read lends end 4 v) (Ok bytes) w
-      came = subst (λ r. Tells (eight_read lends end 4 v) r w) (unplaced p bytes r is) reads
-
-      pub capabilities_below : Octets v.coming → bits < 4294967296
-      capabilities_below octets = eight_below W32 lends end 4 v w bytes bits refl octets came digits
-
-      pub capabilities_told : TellsAt (capabilities_read lends end v) (Ok bits) w
-      unfolding capabilities_read
-      capabilities_told =
-          let g = given (asked end v None 4) v (padded 4 v.coming) (advanced lends 4 v) bytes w came in
-          let m = answer (asked end v None 4) v (little_endian (take 4 v.coming)) (advanced lends 4 v) in
-          told_placed m p v.count (Ok bits) (Ok bits) w here
-          (give (asked end v None 4) v (little_endian (take 4 v.coming)) (advanced lends 4 v) bits w
-          (record { granted_it = g.granted_it; value = eight_bits W32 lends end 4 v w bytes bits refl came digits; left = g.left })) refl
+    pub capabilities_told : (bytes : List ℕ) → Ok bytes ≡ placed_result p r → (bits : ℕ) → bits ≡ from_le_bytes w32 bytes → TellsAt (capabilities_read lends end v) (Ok bits) w
+    unfolding capabilities_read
+    capabilities_told bytes is bits digits =
+        let came = subst (λ r. Tells (array_read lends end 4 v) r w) (unplaced p bytes r is) reads in
+        told_placed (answer (asked end v None 4) v (little_endian (take 4 v.coming)) (advanced lends 4 v)) p v.count (Ok bits) (Ok bits) w here
+        (number_told lends end 4 v w little_endian (from_le_bytes w32) (le_sum 3) bytes bits came digits) refl
 
   module _ (caps : ℕ) (r : Result ℕ ReadError) (reads : Tells (count_read lends end v) r w) where
     count_told : (s : Result ℕ Refusal) → s ≡ placed_result p r → TellsAt (placed v.count (count_read lends end v)) s w

@@ -11,7 +11,8 @@ use Rattle.read.specs.Reader.{View, Spent, past, room, shortfall, advanced, put}
 use Rattle.read.specs.declared.Fault.TheVariants as fault
 use Rattle.format.specs.declared.refusal.ReadError.{ReadError}
 use Rattle.format.specs.declared.refusal.ReadError.TheVariants.{Short, Source, NotText}
-use Rattle.bunser.specs.Outcome.{got, bad, and_then, error_of, judged, asked, answer, ReadLeaves, Tells}
+use Rattle.format.specs.Faults.{error_of}
+use Rattle.bunser.specs.Outcome.{got, bad, and_then, judged, asked, answer, ReadLeaves, Tells}
 use Rattle.bunser.specs.Reads.{bytes_read, fronts}
 use Rattle.bunser.specs.Texts.{textual, text_read}
 use Rattle.bunser.specs.Passing.{verdict_of, passing, whole_read, pass_read}

@@ -1,13 +1,14 @@
 -- What a read comes to, and how a call tells it.
 use Rattle.std.specs.Prelude.{◌≡◌, ℕ, ◌+◌, Bool, true, false, Some, None, Ok, Err, Option, Result}
 use Rattle.read.specs.declared.Fault.{Fault}
-use Rattle.read.specs.declared.Fault.TheVariants as fault
 use Rattle.read.specs.Reader.{View, Spent, past, refusal}
 use Rattle.format.specs.declared.refusal.ReadError.{ReadError}
 use Rattle.format.specs.declared.refusal.ReadError.TheVariants.{End, Stop, Room, Short, Source, Magic, Byte, Negative, TooLong, NotText}
 use Rattle.format.specs.declared.refusal.Cause.{Cause}
 use Rattle.format.specs.declared.refusal.Cause.TheVariants.{OutOfTurn, Token, Read, Depth, KeyRoom, NoKeys, Unfinished, Length}
 use Rattle.format.specs.declared.refusal.Refusal.{Refusal}
+use Rattle.format.specs.Faults.{error_of}
+use Rattle.bunser.specs.declared.Bunser.{Bunser}
 
 -- something read and the reader then, or a refusal and the reader then
 pub data Outcome (E A : Type 0) : Type 0 where
@@ -31,12 +32,6 @@ placed_result p (Ok a) = Ok a
 placed_result p (Err e) = Err (at e p)
 
 -- ---- the questions of a read
-
-abbrev pub error_of : Fault → ReadError
-error_of fault.Stop = Stop
-error_of fault.Room = Room
-error_of fault.Short = Short
-error_of (fault.Source code) = Source code
 
 abbrev pub judged : Bool → Option Fault → Option ReadError
 judged true o = Some End
@@ -89,3 +84,8 @@ Tells m r w = TellsBy ReadLeaves m r w
 
 abbrev pub TellsAt : {A : Type 0} → Outcome Refusal A → Result A Refusal → View → Type 0
 TellsAt m r w = TellsBy RefusalLeaves m r w
+
+-- A read of a body: what it comes to is told from the declared end and the reader, and the end stays.
+pub record Reads {R : Type 0} (view : R → View) (b c : Bunser R) (Told : Option ℕ → View → View → Type 0) : Type 0 where
+  pub reads : Told b.end (view b.read) (view c.read)
+  pub same : c.end ≡ b.end

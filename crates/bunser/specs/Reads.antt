@@ -1,7 +1,8 @@
 -- What each read gives and leaves of the reader's meaning, or how it refuses.
-use Rattle.std.specs.Prelude.{ℕ, ◌+◌, ◌-◌, ◌*◌, Bool, cond, ◌&&◌, List, [], ◌++◌, take, replicate, ℤ, pos, negsuc, Some, None, Ok, Err, Option, Result, ◌==◌, slice_index}
+use Rattle.std.specs.Prelude.{ℕ, ◌+◌, Bool, cond, ◌&&◌, List, [], length, take, replicate, ℤ, pos, negsuc, Some, None, Ok, Err, Option, Result, ◌==◌, slice_index}
 use Rattle.read.specs.declared.Taken.{Taken}
-use Rattle.read.specs.Reader.{View, past, held, advanced, discarded, lies}
+use Rattle.read.specs.declared.Taken.TheVariants.{Lent, Copied}
+use Rattle.read.specs.Reader.{View, past, held, advanced, discarded, lies, lent_part}
 use Rattle.format.specs.Integers.{width_of, bytes_of, little_endian, twos_complement}
 use Rattle.format.specs.declared.width.Width.{Width}
 use Rattle.format.specs.declared.refusal.ReadError.{ReadError}
@@ -35,16 +36,18 @@ fronts (Some Negative) n v = []
 fronts (Some TooLong) n v = []
 fronts (Some NotText) n v = []
 
--- n bytes are taken, and given at the front of eight
-abbrev pub padded : ℕ → List ℕ → List ℕ
-padded n xs = take n xs ++ replicate (8 - n) 0
+-- n bytes are taken and given
+abbrev pub array_read : Bool → Option ℕ → ℕ → View → Outcome ReadError (List ℕ)
+array_read lends end n v = answer (asked end v None n) v (take n v.coming) (advanced lends n v)
 
-abbrev pub eight_read : Bool → Option ℕ → ℕ → View → Outcome ReadError (List ℕ)
-eight_read lends end n v = answer (asked end v None n) v (padded n v.coming) (advanced lends n v)
+-- the bytes that were lent, or those that stand there
+abbrev pub kept_or : Option (List ℕ) → List ℕ → List ℕ
+kept_or (Some xs) ys = xs
+kept_or None ys = ys
 
--- the number in eight bytes, the lowest first
-abbrev pub eight_digits : List ℕ → ℕ
-eight_digits xs = slice_index xs 0 + slice_index xs 1 * 256 + slice_index xs 2 * 65536 + slice_index xs 3 * 16777216 + slice_index xs 4 * 4294967296 + slice_index xs 5 * 1099511627776 + slice_index xs 6 * 281474976710656 + slice_index xs 7 * 72057594037927936
+abbrev pub lent_or : Bool → View → Taken → List ℕ → List ℕ
+lent_or lends v (Lent p) ys = kept_or (lent_part lends v p (length ys)) ys
+lent_or lends v Copied ys = ys
 
 -- ---- integers
 
@@ -94,7 +97,7 @@ abbrev pub is_magic : ℕ → List ℕ → View → Outcome Refusal Unit
 is_magic p bs v = cond (magical (slice_index bs 0) (slice_index bs 1)) (got tt v) (bad (at (Magic (slice_index bs 0) (slice_index bs 1)) p) v)
 
 unfoldable pub magic_read : Bool → Option ℕ → View → Outcome Refusal Unit
-magic_read lends end v = and_then (placed v.count (eight_read lends end 2 v)) (is_magic v.count)
+magic_read lends end v = and_then (placed v.count (array_read lends end 2 v)) (is_magic v.count)
 
 unfoldable pub capabilities_read : Bool → Option ℕ → View → Outcome Refusal ℕ
 capabilities_read lends end v = placed v.count (answer (asked end v None 4) v (little_endian (take 4 v.coming)) (advanced lends 4 v))

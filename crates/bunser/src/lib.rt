@@ -3,14 +3,13 @@
 
 ghost use Rattle.std.specs.Prelude.{◌≡◌, ◌+◌, ◌-◌, ◌*◌, ◌<◌, ◌≤◌, ◌++◌, length, take, drop, IfOk, Some, None};
 ghost use Rattle.read.specs.Reader.{past, room, put, discarded};
-ghost use Rattle.format.specs.Integers.{half_of, twos_complement};
-ghost use Rattle.bunser.specs.Outcome.{error_of, asked, placed_result, Tells, TellsAt};
-ghost use Rattle.bunser.specs.Reads.{peek_read, bytes_read, fronts, eight_read, eight_digits, int_read, real_read, int_width, tagged_int_read, count_of, count_read, magical, magic_read, capabilities_read, length_read, header_read, end_of};
+ghost use Rattle.bunser.specs.Outcome.{asked, placed_result, Tells, TellsAt, Reads};
+ghost use Rattle.bunser.specs.Reads.{peek_read, bytes_read, fronts, lent_or, array_read, int_read, real_read, int_width, tagged_int_read, count_of, count_read, magic_read, capabilities_read, length_read, header_read, end_of};
 
 use format::refusal::{Kind, ReadError, Refusal};
 use format::tags::{FARTHEST, MAGIC};
 use format::width::Width;
-use read::{DeRead, Fault, Taken};
+use read::{DeRead, Taken};
 
 pub mod passing;
 pub mod text;
@@ -33,17 +32,6 @@ pub struct Bunser<R: DeRead> {
     end: Option<usize>,
 }
 
-fn error_of(fault: Fault) -> ReadError
-    ensures { result ≡ error_of fault }
-{
-    match fault {
-        Fault::Stop => ReadError::Stop,
-        Fault::Room => ReadError::Room,
-        Fault::Short => ReadError::Short,
-        Fault::Source(code) => ReadError::Source(code),
-    }
-}
-
 fn passes(end: Option<usize>, at: usize, n: usize) -> bool
     ensures { result ≡ past end (at + n) }
 {
@@ -53,41 +41,14 @@ fn passes(end: Option<usize>, at: usize, n: usize) -> bool
     at > end || n > end - at
 }
 
-// Copies the last n bytes that a lending reader took to the front of the eight.
-fn copy_last<R: DeRead>(read: &R, n: usize, bytes: &mut [u8; 8])
-    requires few { n ≤ 8 }
-    requires there { n ≤ (R.DeRead.view read.now).count }
-    requires lent { length (R.DeRead.view read.now).kept ≡ (R.DeRead.view read.now).count }
-    ensures { bytes.new ≡ take n (drop ((R.DeRead.view read.now).count - n) (R.DeRead.view read.now).kept) ++ drop n bytes.old }
+// Copies what was lent. Bytes that were copied stand there already.
+fn copy_lent<R: DeRead>(read: &R, taken: Taken, bytes: &mut [u8])
+    ensures { bytes.new ≡ lent_or R.DeRead.lends (R.DeRead.view read.now) taken bytes.old }
 {
-    let from = read.read_count() - n;
-    for i in 0..n {
-        bytes[i] = read.kept(from + i).unwrap_or(0);
-    }
-}
-
-// The number in eight bytes, the lowest first.
-fn little_endian(bytes: [u8; 8]) -> u64
-    ensures { result ≡ eight_digits bytes }
-{
-    u64::from_le_bytes(bytes)
-}
-
-// The number that these bits mean in an integer of this width.
-fn signed(width: Width, bits: u64) -> i64
-    requires { bits < 2 * half_of width }
-    ensures { result ≡ twos_complement width bits }
-{
-    let (half, least): (u64, i64) = match width {
-        Width::W8 => (1 << 7, i8::MIN as i64),
-        Width::W16 => (1 << 15, i16::MIN as i64),
-        Width::W32 => (1 << 31, i32::MIN as i64),
-        Width::W64 => (1 << 63, i64::MIN),
-    };
-    if bits < half {
-        bits as i64
-    } else {
-        (bits - half) as i64 + least
+    if let Taken::Lent(place) = taken
+        && let Some(part) = read.kept_part(place, bytes.len())
+    {
+        bytes.copy_from_slice(part);
     }
 }
 
@@ -95,37 +56,21 @@ fn signed(width: Width, bits: u64) -> i64
 fn int_width(tag: u8) -> Result<Width, ReadError>
     ensures { result ≡ int_width tag }
 {
-    match Width::of_tag(tag) {
-        Some(width) => Ok(width),
-        None => Err(ReadError::Byte(Kind::Integer, tag)),
-    }
+    Width::of_tag(tag).ok_or(ReadError::Byte(Kind::Integer, tag))
 }
 
 // A count or a length is not negative.
 fn count_of(value: i64) -> Result<usize, ReadError>
     ensures { result ≡ count_of value }
 {
-    if value < 0 {
-        Err(ReadError::Negative)
-    } else {
-        Ok(value as usize)
-    }
-}
-
-fn is_magic(first: u8, second: u8) -> bool
-    ensures { result ≡ magical first second }
-{
-    first == MAGIC.0 && second == MAGIC.1
+    usize::try_from(value).map_err(|_| ReadError::Negative)
 }
 
 // What a read that begins at this place has come to.
 fn placed<T>(read: Result<T, ReadError>, place: usize) -> Result<T, Refusal>
     ensures { result ≡ placed_result place read }
 {
-    match read {
-        Ok(x) => Ok(x),
-        Err(error) => Err(error.at(place)),
-    }
+    read.map_err(|error| error.at(place))
 }
 
 impl<R: DeRead> Bunser<R> {
@@ -152,77 +97,64 @@ impl<R: DeRead> Bunser<R> {
 
     /// Shows the next byte.
     pub fn peek(&mut self) -> Result<u8, ReadError>
-        ensures reads { Tells (peek_read self.old.end (R.DeRead.view self.old.read)) result (R.DeRead.view self.new.read) }
-        ensures same { self.new.end ≡ self.old.end }
+        ensures { Reads R.DeRead.view self.old self.new (λ end v. Tells (peek_read end v) result) }
     {
         if passes(self.end, self.read.read_count(), 1) {
             return Err(ReadError::End);
         }
-        match self.read.peek() {
-            Ok(b) => Ok(b),
-            Err(fault) => Err(error_of(fault)),
-        }
+        Ok(self.read.peek()?)
     }
 
     /// Takes the byte that was shown.
     pub fn discard(&mut self)
-        ensures reads { R.DeRead.view self.new.read ≡ discarded R.DeRead.lends (R.DeRead.view self.old.read) }
-        ensures same { self.new.end ≡ self.old.end }
+        ensures { Reads R.DeRead.view self.old self.new (λ end v w. w ≡ discarded R.DeRead.lends v) }
     {
         self.read.discard();
     }
 
     /// Takes n bytes in one read.
     pub fn read_bytes(&mut self, n: usize, buf: &mut [u8]) -> Result<Taken, ReadError>
-        ensures reads { Tells (bytes_read R.DeRead.lends self.old.end (room R.DeRead.lends buf.old) n (R.DeRead.view self.old.read)) result (R.DeRead.view self.new.read) }
+        ensures reads { Reads R.DeRead.view self.old self.new (λ end v. Tells (bytes_read R.DeRead.lends end (room R.DeRead.lends buf.old) n v) result) }
         ensures puts { buf.new ≡ put R.DeRead.lends (fronts (asked self.old.end (R.DeRead.view self.old.read) (room R.DeRead.lends buf.old) n) n (R.DeRead.view self.old.read)) buf.old }
-        ensures same { self.new.end ≡ self.old.end }
     {
         if passes(self.end, self.read.read_count(), n) {
             return Err(ReadError::End);
         }
-        match self.read.next_bytes(n, buf) {
-            Ok(taken) => Ok(taken),
-            Err(fault) => Err(error_of(fault)),
-        }
+        Ok(self.read.next_bytes(n, buf)?)
     }
 
-    // n bytes in one read, at the front of eight. What a lending reader keeps is copied.
-    fn read_eight(&mut self, n: usize) -> Result<[u8; 8], ReadError>
-        requires { n ≤ 8 }
-        ensures reads { Tells (eight_read R.DeRead.lends self.old.end n (R.DeRead.view self.old.read)) result (R.DeRead.view self.new.read) }
-        ensures same { self.new.end ≡ self.old.end }
+    // N bytes in one read. What a lending reader keeps is copied.
+    fn read_array<const N: usize>(&mut self) -> Result<[u8; N], ReadError>
+        ensures { Reads R.DeRead.view self.old self.new (λ end v. Tells (array_read R.DeRead.lends end N v) result) }
     {
-        let mut bytes = [0u8; 8];
-        let taken = self.read_bytes(n, &mut bytes)?;
-        if let Taken::Lent(_) = taken {
-            copy_last(&self.read, n, &mut bytes);
-        }
+        let mut bytes = [0u8; N];
+        let taken = self.read_bytes(N, &mut bytes)?;
+        copy_lent(&self.read, taken, &mut bytes);
         Ok(bytes)
     }
 
     /// The integer whose tag was taken, in one read.
     pub fn next_int(&mut self, width: Width) -> Result<i64, ReadError>
-        ensures reads { Tells (int_read R.DeRead.lends self.old.end width (R.DeRead.view self.old.read)) result (R.DeRead.view self.new.read) }
-        ensures same { self.new.end ≡ self.old.end }
+        ensures { Reads R.DeRead.view self.old self.new (λ end v. Tells (int_read R.DeRead.lends end width v) result) }
     {
-        let bytes = self.read_eight(width.bytes())?;
-        Ok(signed(width, little_endian(bytes)))
+        Ok(match width {
+            Width::W8 => i64::from(i8::from_le_bytes(self.read_array()?)),
+            Width::W16 => i64::from(i16::from_le_bytes(self.read_array()?)),
+            Width::W32 => i64::from(i32::from_le_bytes(self.read_array()?)),
+            Width::W64 => i64::from_le_bytes(self.read_array()?),
+        })
     }
 
     /// The real whose tag was taken, in one read: its eight bytes as one number.
     pub fn next_real(&mut self) -> Result<u64, ReadError>
-        ensures reads { Tells (real_read R.DeRead.lends self.old.end (R.DeRead.view self.old.read)) result (R.DeRead.view self.new.read) }
-        ensures same { self.new.end ≡ self.old.end }
+        ensures { Reads R.DeRead.view self.old self.new (λ end v. Tells (real_read R.DeRead.lends end v) result) }
     {
-        let bytes = self.read_eight(8)?;
-        Ok(little_endian(bytes))
+        Ok(u64::from_le_bytes(self.read_array()?))
     }
 
     /// The next integer, of any width. The tag is taken once it is known to begin one.
     pub fn check_next_int(&mut self) -> Result<i64, ReadError>
-        ensures reads { Tells (tagged_int_read R.DeRead.lends self.old.end (R.DeRead.view self.old.read)) result (R.DeRead.view self.new.read) }
-        ensures same { self.new.end ≡ self.old.end }
+        ensures { Reads R.DeRead.view self.old self.new (λ end v. Tells (tagged_int_read R.DeRead.lends end v) result) }
     {
         let tag = self.peek()?;
         let width = int_width(tag)?;
@@ -232,8 +164,7 @@ impl<R: DeRead> Bunser<R> {
 
     /// The next integer as a count or a length, which is not negative.
     pub fn next_count(&mut self) -> Result<usize, ReadError>
-        ensures reads { Tells (count_read R.DeRead.lends self.old.end (R.DeRead.view self.old.read)) result (R.DeRead.view self.new.read) }
-        ensures same { self.new.end ≡ self.old.end }
+        ensures { Reads R.DeRead.view self.old self.new (λ end v. Tells (count_read R.DeRead.lends end v) result) }
     {
         let value = self.check_next_int()?;
         count_of(value)
@@ -241,30 +172,27 @@ impl<R: DeRead> Bunser<R> {
 
     // The two bytes with which every PDU begins.
     fn read_magic(&mut self) -> Result<(), Refusal>
-        ensures reads { TellsAt (magic_read R.DeRead.lends self.old.end (R.DeRead.view self.old.read)) result (R.DeRead.view self.new.read) }
-        ensures same { self.new.end ≡ self.old.end }
+        ensures { Reads R.DeRead.view self.old self.new (λ end v. TellsAt (magic_read R.DeRead.lends end v) result) }
     {
         let place = self.read_count();
-        let bytes = placed(self.read_eight(2), place)?;
-        if !is_magic(bytes[0], bytes[1]) {
-            return Err(ReadError::Magic(bytes[0], bytes[1]).at(place));
+        let [first, second] = placed(self.read_array::<2>(), place)?;
+        if [first, second] != MAGIC {
+            return Err(ReadError::Magic(first, second).at(place));
         }
         Ok(())
     }
 
     fn read_capabilities(&mut self) -> Result<u32, Refusal>
-        ensures reads { TellsAt (capabilities_read R.DeRead.lends self.old.end (R.DeRead.view self.old.read)) result (R.DeRead.view self.new.read) }
-        ensures same { self.new.end ≡ self.old.end }
+        ensures { Reads R.DeRead.view self.old self.new (λ end v. TellsAt (capabilities_read R.DeRead.lends end v) result) }
     {
         let place = self.read_count();
-        let bytes = placed(self.read_eight(4), place)?;
-        Ok(little_endian(bytes) as u32)
+        let bytes = placed(self.read_array(), place)?;
+        Ok(u32::from_le_bytes(bytes))
     }
 
     // The length of the body, which begins behind it.
     fn read_length(&mut self, capabilities: u32) -> Result<Header, Refusal>
-        ensures reads { TellsAt (length_read R.DeRead.lends self.old.end capabilities (R.DeRead.view self.old.read)) result (R.DeRead.view self.new.read) }
-        ensures same { self.new.end ≡ self.old.end }
+        ensures { Reads R.DeRead.view self.old self.new (λ end v. TellsAt (length_read R.DeRead.lends end capabilities v) result) }
     {
         let place = self.read_count();
         let length = placed(self.next_count(), place)?;

@@ -2,7 +2,7 @@
 ghost use Rattle.std.specs.Prelude.{◌≡◌, ◌+◌, true, false, []};
 ghost use Rattle.utf8.specs.Pieces.{await, complete};
 ghost use Rattle.read.specs.Reader.{past, room};
-ghost use Rattle.bunser.specs.Outcome.{Tells};
+ghost use Rattle.bunser.specs.Outcome.{Tells, Reads};
 ghost use Rattle.bunser.specs.Passing.{verdict_of, whole_read, pass_read};
 
 use super::Bunser;
@@ -28,25 +28,22 @@ impl<R: DeRead> Bunser<R> {
         requires copies { R.DeRead.lends ≡ false }
         requires ends { past self.old.end ((R.DeRead.view self.old.read).count + n) ≡ false }
         requires stops { past (R.DeRead.view self.old.read).stop ((R.DeRead.view self.old.read).count + n) ≡ false }
-        ensures reads { Tells (pass_read checked R.DeRead.lends self.old.end n (R.DeRead.view self.old.read)) result (R.DeRead.view self.new.read) }
-        ensures same { self.new.end ≡ self.old.end }
+        ensures { Reads R.DeRead.view self.old self.new (λ end v. Tells (pass_read checked R.DeRead.lends end n v) result) }
     {
         let mut piece = [0u8; PIECE];
         let mut awaited = Awaited::Character;
-        let mut left = n;
-        while left >= PIECE {
+        for _ in 0..n / PIECE {
             let _taken = self.read_bytes(PIECE, &mut piece)?;
             awaited = awaited.after(&piece);
-            left -= PIECE;
         }
+        let left = n % PIECE;
         let _taken = self.read_bytes(left, &mut piece)?;
-        verdict(checked, awaited.after(&piece[0..left]))
+        verdict(checked, awaited.after(&piece[..left]))
     }
 
     // A text in one read without a buffer, in which a reader that copies has no room for it.
     fn take_whole(&mut self, n: usize, checked: bool) -> Result<Taken, ReadError>
-        ensures reads { Tells (whole_read checked R.DeRead.lends self.old.end (room R.DeRead.lends []) n (R.DeRead.view self.old.read)) result (R.DeRead.view self.new.read) }
-        ensures same { self.new.end ≡ self.old.end }
+        ensures { Reads R.DeRead.view self.old self.new (λ end v. Tells (whole_read checked R.DeRead.lends end (room R.DeRead.lends []) n v) result) }
     {
         let mut none = [0u8; 0];
         if checked {
@@ -58,8 +55,7 @@ impl<R: DeRead> Bunser<R> {
 
     /// Passes a text of n bytes over: in one read where the reader lends, else in pieces.
     pub fn pass_text(&mut self, n: usize, checked: bool) -> Result<(), ReadError>
-        ensures reads { Tells (pass_read checked R.DeRead.lends self.old.end n (R.DeRead.view self.old.read)) result (R.DeRead.view self.new.read) }
-        ensures same { self.new.end ≡ self.old.end }
+        ensures { Reads R.DeRead.view self.old self.new (λ end v. Tells (pass_read checked R.DeRead.lends end n v) result) }
     {
         match self.take_whole(n, checked) {
             Ok(_) => Ok(()),

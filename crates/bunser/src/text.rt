@@ -4,12 +4,12 @@ ghost use Rattle.utf8.specs.Utf8.{utf8};
 ghost use Rattle.read.specs.declared.Taken.TheVariants as taken_as;
 ghost use Rattle.read.specs.Reader.{room, put};
 ghost use Rattle.format.specs.declared.refusal.ReadError.TheVariants.{Room};
-ghost use Rattle.bunser.specs.Outcome.{at, asked, Tells, TellsAt};
+ghost use Rattle.bunser.specs.Outcome.{at, asked, Tells, TellsAt, Reads};
 ghost use Rattle.bunser.specs.Texts.{begins_key, placed_count, key_length_read, text_read, text_fronts, part_of, spanned, referred, is_lent, bytes_of, is_borrowed, is_text};
 
 use super::{Bunser, placed};
 use format::refusal::{Kind, ReadError, Refusal};
-use format::tags::{BSER_BYTESTRING, BSER_UTF8STRING};
+use format::tags::Tag;
 use read::{DeRead, Taken};
 use utf8::is_utf8;
 
@@ -28,48 +28,49 @@ pub enum Reference<'b, 'c> {
 }
 
 impl<'b, 'c> Reference<'b, 'c> {
+    /// The bytes themselves, wherever they lie.
+    pub fn bytes(&self) -> &[u8]
+        ensures { result.now ≡ bytes_of self.now }
+    {
+        match self {
+            Reference::Borrowed(bytes) => bytes,
+            Reference::Copied(bytes) => bytes,
+        }
+    }
+
     pub fn len(&self) -> usize
         ensures { result ≡ length (bytes_of self.now) }
     {
-        match self {
-            Reference::Borrowed(bytes) => bytes.len(),
-            Reference::Copied(bytes) => bytes.len(),
-        }
+        self.bytes().len()
     }
 
     pub fn is_utf8(&self) -> bool
         ensures { result ≡ utf8 (bytes_of self.now) }
     {
-        match self {
-            Reference::Borrowed(bytes) => is_utf8(bytes),
-            Reference::Copied(bytes) => is_utf8(bytes),
-        }
+        is_utf8(self.bytes())
     }
 }
 
 fn begins_key(tag: u8) -> bool
     ensures { result ≡ begins_key tag }
 {
-    tag == BSER_BYTESTRING || tag == BSER_UTF8STRING
+    matches!(Tag::try_from(tag), Ok(Tag::ByteString | Tag::Utf8String))
 }
 
 // So many bytes from a place on, if they are there.
 fn part_of(bytes: &[u8], place: usize, n: usize) -> Option<&[u8]>
     ensures { MatchOption result (part_of bytes.now place n ≡ None) (λ s. part_of bytes.now place n ≡ Some s.now) }
 {
-    if place > bytes.len() || n > bytes.len() - place {
-        return None;
-    }
-    Some(&bytes[place..place + n])
+    bytes.get(place..)?.get(..n)
 }
 
 // A text that is refused does not stay in the buffer.
-fn wipe(taken: Taken, n: usize, buf: &mut [u8])
-    requires { taken ≡ taken_as.Copied → n ≤ length buf.old }
-    ensures { buf.new ≡ put (is_lent taken) (replicate n 0) buf.old }
+fn wipe(span: Span, buf: &mut [u8])
+    requires { span.taken ≡ taken_as.Copied → span.len ≤ length buf.old }
+    ensures { buf.new ≡ put (is_lent span.taken) (replicate span.len 0) buf.old }
 {
-    if let Taken::Copied = taken {
-        buf[0..n].fill(0);
+    if let Taken::Copied = span.taken {
+        buf[..span.len].fill(0);
     }
 }
 
@@ -84,14 +85,14 @@ impl<R: DeRead> Bunser<R> {
     {
         let n = span.len;
         match span.taken {
-            Taken::Lent(place) => match self.read.kept_part(place, n) {
-                Some(part) => Ok(Reference::Borrowed(part)),
-                None => Err(ReadError::Room),
-            },
-            Taken::Copied => match part_of(buf, 0, n) {
-                Some(part) => Ok(Reference::Copied(part)),
-                None => Err(ReadError::Room),
-            },
+            Taken::Lent(place) => {
+                let part = self.read.kept_part(place, n).ok_or(ReadError::Room)?;
+                Ok(Reference::Borrowed(part))
+            }
+            Taken::Copied => {
+                let part = buf.get(..n).ok_or(ReadError::Room)?;
+                Ok(Reference::Copied(part))
+            }
         }
     }
 
@@ -103,16 +104,12 @@ impl<R: DeRead> Bunser<R> {
             Taken::Lent(place) => (input, place),
             Taken::Copied => (buf, 0),
         };
-        match part_of(bytes, place, span.len) {
-            Some(part) => Ok(part),
-            None => Err(ReadError::Room.at(self.read_count())),
-        }
+        part_of(bytes, place, span.len).ok_or(ReadError::Room.at(self.read_count()))
     }
 
     /// The next integer as a count; a refusal is placed at its tag.
     pub fn placed_count(&mut self) -> Result<usize, Refusal>
-        ensures reads { TellsAt (placed_count R.DeRead.lends self.old.end (R.DeRead.view self.old.read)) result (R.DeRead.view self.new.read) }
-        ensures same { self.new.end ≡ self.old.end }
+        ensures { Reads R.DeRead.view self.old self.new (λ end v. TellsAt (placed_count R.DeRead.lends end v) result) }
     {
         let place = self.read_count();
         placed(self.next_count(), place)
@@ -120,8 +117,7 @@ impl<R: DeRead> Bunser<R> {
 
     /// The length of the key that comes next, whose tag is taken once it is known to begin a key.
     pub fn key_len(&mut self, kind: Kind) -> Result<usize, Refusal>
-        ensures reads { TellsAt (key_length_read R.DeRead.lends self.old.end kind (R.DeRead.view self.old.read)) result (R.DeRead.view self.new.read) }
-        ensures same { self.new.end ≡ self.old.end }
+        ensures { Reads R.DeRead.view self.old self.new (λ end v. TellsAt (key_length_read R.DeRead.lends end kind v) result) }
     {
         let place = self.read_count();
         let tag = placed(self.peek(), place)?;
@@ -136,23 +132,21 @@ impl<R: DeRead> Bunser<R> {
     fn is_text(&self, span: Span, buf: &[u8]) -> bool
         ensures { result ≡ is_text (referred R.DeRead.lends (R.DeRead.view self.now.read) span.taken span.len buf.now) }
     {
-        match self.reference(span, buf) {
-            Ok(reference) => reference.is_utf8(),
-            Err(_) => false,
-        }
+        self.reference(span, buf)
+            .is_ok_and(|reference| reference.is_utf8())
     }
 
     /// Takes a text of n bytes in one read. It has to be UTF-8, and is taken either way.
     pub fn next_text(&mut self, n: usize, buf: &mut [u8]) -> Result<Taken, ReadError>
-        ensures reads { Tells (text_read R.DeRead.lends self.old.end (room R.DeRead.lends buf.old) n (R.DeRead.view self.old.read)) result (R.DeRead.view self.new.read) }
+        ensures reads { Reads R.DeRead.view self.old self.new (λ end v. Tells (text_read R.DeRead.lends end (room R.DeRead.lends buf.old) n v) result) }
         ensures puts { buf.new ≡ put R.DeRead.lends (text_fronts (asked self.old.end (R.DeRead.view self.old.read) (room R.DeRead.lends buf.old) n) (utf8 (take n (R.DeRead.view self.old.read).coming)) n (R.DeRead.view self.old.read)) buf.old }
-        ensures same { self.new.end ≡ self.old.end }
     {
         let taken = self.read_bytes(n, buf)?;
-        if self.is_text(Span { taken, len: n }, buf) {
+        let span = Span { taken, len: n };
+        if self.is_text(span, buf) {
             return Ok(taken);
         }
-        wipe(taken, n, buf);
+        wipe(span, buf);
         Err(ReadError::NotText)
     }
 }

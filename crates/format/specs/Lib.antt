@@ -1,2 +1,4 @@
 pub mod Integers
 pub mod Numbers
+pub mod Tags
+pub mod Faults

@@ -1,6 +1,9 @@
 ghost use Rattle.std.specs.Prelude.{◌≡◌};
+ghost use Rattle.format.specs.Faults.{error_of};
 ghost use Rattle.format.specs.Numbers.{number_of, read_number, layer_of, latching};
 ghost use Rattle.format.specs.declared.refusal.Cause.TheVariants.{Read};
+
+use read::Fault;
 
 /// What was to begin where a byte was found that cannot begin it.
 #[derive(Clone, Copy, PartialEq, Eq, Debug)]
@@ -96,8 +99,7 @@ impl Refusal {
     {
         match self.cause {
             Cause::Read(ReadError::Source(_)) => Layer::Source,
-            Cause::Read(ReadError::Short) => Layer::Reader,
-            Cause::Read(ReadError::Stop) => Layer::Reader,
+            Cause::Read(ReadError::Short | ReadError::Stop) => Layer::Reader,
             _ => Layer::Decoder,
         }
     }
@@ -106,12 +108,10 @@ impl Refusal {
     pub fn latches(&self) -> bool
         ensures { result ≡ latching self.now.cause }
     {
-        match self.cause {
-            Cause::OutOfTurn => false,
-            Cause::Token => false,
-            Cause::Read(ReadError::Room) => false,
-            _ => true,
-        }
+        !matches!(
+            self.cause,
+            Cause::OutOfTurn | Cause::Token | Cause::Read(ReadError::Room)
+        )
     }
 }
 
@@ -127,8 +127,7 @@ impl ReadError {
             ReadError::Byte(_, _) => 6,
             ReadError::Negative => 7,
             ReadError::TooLong => 8,
-            ReadError::End => 9,
-            ReadError::Stop => 9,
+            ReadError::End | ReadError::Stop => 9,
             ReadError::NotText => 13,
             ReadError::Room => 14,
         }
@@ -141,6 +140,19 @@ impl ReadError {
         Refusal {
             place,
             cause: Cause::Read(self),
+        }
+    }
+}
+
+impl From<Fault> for ReadError {
+    ghost from_gives = { λ fault error. error ≡ error_of fault };
+
+    fn from(fault: Fault) -> ReadError {
+        match fault {
+            Fault::Stop => ReadError::Stop,
+            Fault::Room => ReadError::Room,
+            Fault::Short => ReadError::Short,
+            Fault::Source(code) => ReadError::Source(code),
         }
     }
 }

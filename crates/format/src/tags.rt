@@ -1,34 +1,57 @@
 //! The byte with which each item of BSER begins.
-pub const BSER_ARRAY: u8 = 0x00;
+ghost use Rattle.std.specs.Prelude.{◌≡◌};
+ghost use Rattle.format.specs.Tags.{tag_of};
 
-pub const BSER_OBJECT: u8 = 0x01;
+use super::width::Width;
 
-pub const BSER_BYTESTRING: u8 = 0x02;
+/// What an item is, by the byte with which it begins.
+#[derive(Clone, Copy, PartialEq, Eq, Debug)]
+pub enum Tag {
+    Array,
+    Object,
+    ByteString,
+    Int(Width),
+    Real,
+    True,
+    False,
+    Null,
+    Template,
+    Skip,
+    Utf8String,
+}
 
-pub const BSER_INT8: u8 = 0x03;
+/// A byte with which no item begins.
+#[derive(Clone, Copy, PartialEq, Eq, Debug)]
+pub struct NoTag(pub u8);
 
-pub const BSER_INT16: u8 = 0x04;
+impl TryFrom<u8> for Tag {
+    type Error = NoTag;
 
-pub const BSER_INT32: u8 = 0x05;
+    ghost try_from_gives = { λ b r. r ≡ tag_of b };
 
-pub const BSER_INT64: u8 = 0x06;
-
-pub const BSER_REAL: u8 = 0x07;
-
-pub const BSER_TRUE: u8 = 0x08;
-
-pub const BSER_FALSE: u8 = 0x09;
-
-pub const BSER_NULL: u8 = 0x0a;
-
-pub const BSER_TEMPLATE: u8 = 0x0b;
-
-pub const BSER_SKIP: u8 = 0x0c;
-
-pub const BSER_UTF8STRING: u8 = 0x0d;
+    fn try_from(byte: u8) -> Result<Tag, NoTag> {
+        Ok(match byte {
+            0x00 => Tag::Array,
+            0x01 => Tag::Object,
+            0x02 => Tag::ByteString,
+            0x03 => Tag::Int(Width::W8),
+            0x04 => Tag::Int(Width::W16),
+            0x05 => Tag::Int(Width::W32),
+            0x06 => Tag::Int(Width::W64),
+            0x07 => Tag::Real,
+            0x08 => Tag::True,
+            0x09 => Tag::False,
+            0x0a => Tag::Null,
+            0x0b => Tag::Template,
+            0x0c => Tag::Skip,
+            0x0d => Tag::Utf8String,
+            _ => return Err(NoTag(byte)),
+        })
+    }
+}
 
 /// The two bytes with which a PDU begins.
-pub const MAGIC: (u8, u8) = (0x00, 0x02);
+pub const MAGIC: [u8; 2] = [0x00, 0x02];
 
 /// No body ends past this count.
 pub const FARTHEST: usize = 1 << 60;

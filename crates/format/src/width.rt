@@ -1,7 +1,7 @@
 ghost use Rattle.std.specs.Prelude.{◌≡◌};
 ghost use Rattle.format.specs.Integers.{bytes_of, width_of};
 
-use super::tags::*;
+use super::tags::Tag;
 
 /// How many bits an integer has.
 #[derive(Clone, Copy, PartialEq, Eq, Debug)]
@@ -17,11 +17,8 @@ impl Width {
     pub fn of_tag(tag: u8) -> Option<Width>
         ensures { result ≡ width_of tag }
     {
-        match tag {
-            BSER_INT8 => Some(Width::W8),
-            BSER_INT16 => Some(Width::W16),
-            BSER_INT32 => Some(Width::W32),
-            BSER_INT64 => Some(Width::W64),
+        match Tag::try_from(tag) {
+            Ok(Tag::Int(width)) => Some(width),
             _ => None,
         }
     }

@@ -4,23 +4,23 @@ use std::fmt;
 
 impl fmt::Display for Kind {
     fn fmt<W: fmt::Write>(&self, f: &mut fmt::Formatter<W>) -> fmt::Result {
-        match self {
-            Kind::Integer => f.write_str("a whole number"),
-            Kind::NextItem => f.write_str("a value"),
-            Kind::MapKey => f.write_str("the name of a field"),
-            Kind::KeyList => f.write_str("the list of column names"),
-            Kind::TemplateKey => f.write_str("the name of a column"),
-        }
+        f.write_str(match self {
+            Kind::Integer => "a whole number",
+            Kind::NextItem => "a value",
+            Kind::MapKey => "the name of a field",
+            Kind::KeyList => "the list of column names",
+            Kind::TemplateKey => "the name of a column",
+        })
     }
 }
 
 impl fmt::Display for Layer {
     fn fmt<W: fmt::Write>(&self, f: &mut fmt::Formatter<W>) -> fmt::Result {
-        match self {
-            Layer::Source => f.write_str("source"),
-            Layer::Reader => f.write_str("reader"),
-            Layer::Decoder => f.write_str("decoder"),
-        }
+        f.write_str(match self {
+            Layer::Source => "source",
+            Layer::Reader => "reader",
+            Layer::Decoder => "decoder",
+        })
     }
 }
 
@@ -76,9 +76,12 @@ impl fmt::Display for Cause {
 
 impl fmt::Display for Refusal {
     fn fmt<W: fmt::Write>(&self, f: &mut fmt::Formatter<W>) -> fmt::Result {
-        let number = self.number();
-        let place = self.place;
-        let cause = self.cause;
-        write!(f, "refusal {number} at byte {place}: {cause}")
+        write!(
+            f,
+            "refusal {} at byte {}: {}",
+            self.number(),
+            self.place,
+            self.cause
+        )
     }
 }

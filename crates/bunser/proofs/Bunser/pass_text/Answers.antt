@@ -1,3 +1,4 @@
+use Rattle.std.proofs.Common.{◌∙◌}
 use Rattle.bunser.proofs.Whole.{passed_whole, passed_stop, then_copies, then_ends, then_stops, then_pieces}
 use Rattle.bunser.proofs.Bunser.pass_text.Goals as goal
 
@@ -16,16 +17,22 @@ pass_pieces-requires-clause-stops g c =
     let me = c.args.self.now in
     then_stops c.args.checked g.R.DeRead.lends me.end c.take_whole.new.self.end c.args.n (g.R.DeRead.view me.read) (g.R.DeRead.view c.take_whole.new.self.read) c.in-Err.ensures.same c.in-Err.error c.in-Room.is c.in-Err.ensures.reads
 
-pub returns-in-Ok-clause-reads : goal.returns-in-Ok-clause-reads
-returns-in-Ok-clause-reads g c =
+pub returns-in-Ok : goal.returns-in-Ok
+returns-in-Ok g c =
     let me = c.args.self.now in
-    passed_whole c.args.checked me.end c.args.n (g.R.DeRead.view me.read) (g.R.DeRead.view c.take_whole.new.self.read) g.R.DeRead.lends c.in-Ok.field-0 c.in-Ok.ensures.reads
+    record {
+      reads = passed_whole c.args.checked me.end c.args.n (g.R.DeRead.view me.read) (g.R.DeRead.view c.take_whole.new.self.read) g.R.DeRead.lends c.in-Ok.field-0 c.in-Ok.ensures.reads;
+      same = c.in-Ok.ensures.same;
+    }
 
-pub returns-in-Room-clause-reads : goal.returns-in-Room-clause-reads
-returns-in-Room-clause-reads g c =
+pub returns-in-Room : goal.returns-in-Room
+returns-in-Room g c =
     let me = c.args.self.now in
-    then_pieces c.args.checked g.R.DeRead.lends me.end c.take_whole.new.self.end c.args.n (g.R.DeRead.view me.read) (g.R.DeRead.view c.take_whole.new.self.read) c.in-Err.ensures.same c.in-Err.error c.in-Room.is c.in-Err.ensures.reads
-    c.pass_pieces.result (g.R.DeRead.view c.pass_pieces.new.self.read) c.pass_pieces.ensures.reads
+    record {
+      reads = then_pieces c.args.checked g.R.DeRead.lends me.end c.take_whole.new.self.end c.args.n (g.R.DeRead.view me.read) (g.R.DeRead.view c.take_whole.new.self.read) c.in-Err.ensures.same c.in-Err.error c.in-Room.is c.in-Err.ensures.reads
+          c.pass_pieces.result (g.R.DeRead.view c.pass_pieces.new.self.read) c.pass_pieces.ensures.reads;
+      same = c.pass_pieces.ensures.same ∙ c.in-Err.ensures.same;
+    }
 
 pub returns-in_default : goal.returns-in_default
 returns-in_default g c =
