@@ -75,7 +75,7 @@ abbrev pub unopened : State → View → State
 unopened s v = in_body s (record { reader = v; end = None; opens = s.body.opens; unread = s.body.unread; events = s.body.events; refused = s.body.refused })
 
 abbrev pub open_by : Outcome Refusal Header → State → Answered PduInfo
-open_by (got h v) s = gave (record { capabilities = h.capabilities; start = h.start; length = h.length }) (opened s h v)
+open_by (got h v) s = gave (record { header = h }) (opened s h v)
 open_by (bad f v) s = cut f (latch f (unopened s v))
 
 abbrev pub open_turn : Option Extent → Bool → State → Answered PduInfo
@@ -204,7 +204,7 @@ close_by (Some f) e s = told f s
 close_by None e s = close_body e s
 
 abbrev pub owns : PduInfo → Extent → Bool
-owns p e = p.start == e.start && p.length == e.length
+owns p e = p.header.start == e.start && p.header.length == e.length
 
 abbrev pub close_own : Option Extent → PduInfo → State → Answered Closed
 close_own None p s = told (here cause.Token s) s

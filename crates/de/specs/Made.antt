@@ -4,6 +4,7 @@ use Rattle.source.specs.Feed.{fronted}
 use Rattle.format.specs.declared.refusal.Refusal.{Refusal}
 use Rattle.de.specs.declared.event.Event.{Event}
 use Rattle.de.specs.declared.event.Refused.{Refused}
+use Rattle.de.specs.declared.pdu.Extent.{Extent}
 use Rattle.de.specs.declared.pdu.PduInfo.{PduInfo}
 use Rattle.de.specs.declared.pdu.Closed.{Closed}
 use Rattle.de.specs.declared.entry.Call.{Call}
@@ -27,7 +28,7 @@ AsTold (Some f) a = a ≡ answer.Refused f
 AsTold None a = ⊥
 
 abbrev pub OpenAnswer : Result PduInfo Refused → State → Answer → Type 0
-OpenAnswer (Ok p) t a = a ≡ answer.Opened p.capabilities p.start p.length
+OpenAnswer (Ok p) t a = a ≡ answer.Opened p.header
 OpenAnswer (Err e) t a = AsTold t.body.refused a
 
 abbrev pub NextAnswer : Result (Option Event) Refused → State → Answer → Type 0
@@ -40,7 +41,7 @@ SkipAnswer (Ok n) t a = a ≡ answer.Skipped n
 SkipAnswer (Err e) t a = AsTold t.body.refused a
 
 abbrev pub CloseAnswer : Result Closed Refused → State → Answer → Type 0
-CloseAnswer (Ok c) t a = a ≡ answer.Closed c.events c.length
+CloseAnswer (Ok c) t a = a ≡ answer.Closed c
 CloseAnswer (Err e) t a = AsTold t.body.refused a
 
 pub record Made {A : Type 0} (does : Result A Refused → State → Type 0) (says : Result A Refused → State → Answer → Type 0) (a : Answer) (t : State) : Type 0 where
@@ -49,14 +50,14 @@ pub record Made {A : Type 0} (does : Result A Refused → State → Type 0) (say
   pub answers : says result t a
 
 -- a token with these numbers
-abbrev pub token : ℕ → ℕ → ℕ → PduInfo
-token c b n = record { capabilities = c; start = b; length = n }
+abbrev pub token : ℕ → Extent → PduInfo
+token c e = record { header = record { capabilities = c; start = e.start; length = e.length } }
 
 abbrev pub MadeBy : Bool → State → Call → Answer → List ℕ → State → Type 0
 MadeBy lends s call.Open a x t = Made (Meets (open_call lends s)) OpenAnswer a t × (x ≡ [])
 MadeBy lends s (call.Next room) a x t = Made (Meets (next_call lends room s)) NextAnswer a t × (x ≡ fronted (next_puts s.latched lends room s) (replicate room 0))
 MadeBy lends s call.Skip a x t = Made (SkipCall lends s) SkipAnswer a t × (x ≡ [])
-MadeBy lends s (call.Close b n) a x t = Made (Meets (close_call (token 0 b n) s)) CloseAnswer a t × (x ≡ [])
+MadeBy lends s (call.Close e) a x t = Made (Meets (close_call (token 0 e) s)) CloseAnswer a t × (x ≡ [])
 
 -- this moment is that of this call in this state, which becomes that one
 pub record Logged (lends : Bool) (s : State) (m : Moment) (t : State) : Type 0 where

@@ -1,25 +1,25 @@
 use super::event::Event;
+use super::pdu::{Closed, Extent};
+use bunser::Header;
 use format::refusal::Refusal;
 
-/// A call by value. A token is given by its two numbers, so that any token can be given.
-#[derive(Clone, Copy)]
+/// A call by value. A token is given by the extent that it names, so that any token can be given.
+#[derive(Clone, Copy, PartialEq, Eq, Debug)]
 pub enum Call {
     Open,
     /// `next` with a text buffer of so many bytes.
     Next(usize),
     Skip,
-    Close(usize, usize),
+    Close(Extent),
 }
 
 /// What a call answered.
-#[derive(Clone, Copy)]
+#[derive(Clone, Copy, PartialEq, Eq, Debug)]
 pub enum Answer {
-    /// Capabilities, start and length.
-    Opened(u32, usize, usize),
+    Opened(Header),
     Gave(Event),
     Done,
     Skipped(usize),
-    /// Events and length.
-    Closed(usize, usize),
+    Closed(Closed),
     Refused(Refusal),
 }

@@ -2,7 +2,7 @@ use bunser::text::Span;
 use format::width::Width;
 
 /// What `next` gives. A span says where the bytes lie.
-#[derive(Clone, Copy)]
+#[derive(Clone, Copy, PartialEq, Eq, Debug)]
 pub enum Event {
     ArrayBegin,
     ArrayEnd,
@@ -22,7 +22,7 @@ pub enum Event {
 }
 
 /// What a text is, whose tag and length were taken.
-#[derive(Clone, Copy)]
+#[derive(Clone, Copy, PartialEq, Eq, Debug)]
 pub enum TextKind {
     Bytes,
     Text,
@@ -30,14 +30,14 @@ pub enum TextKind {
 }
 
 /// A text whose tag and length were taken, and whose event has not passed.
-#[derive(Clone, Copy)]
+#[derive(Clone, Copy, PartialEq, Eq, Debug)]
 pub struct Unread {
     pub kind: TextKind,
     pub len: usize,
 }
 
 /// A call was refused. The decoder tells the refusal with its place and its cause.
-#[derive(Clone, Copy)]
+#[derive(Clone, Copy, PartialEq, Eq, Debug)]
 pub struct Refused {
     /// The number by which the documents name the refusal.
     pub number: u8,

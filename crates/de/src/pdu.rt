@@ -1,5 +1,7 @@
+use bunser::Header;
+
 /// Where the body of a PDU begins and how long it is.
-#[derive(Clone, Copy)]
+#[derive(Clone, Copy, PartialEq, Eq, Debug)]
 pub struct Extent {
     pub start: usize,
     pub length: usize,
@@ -7,13 +9,11 @@ pub struct Extent {
 
 /// What `open` read of a PDU. It has to be given to `close`, once.
 pub struct PduInfo {
-    pub(crate) capabilities: u32,
-    pub(crate) start: usize,
-    pub(crate) length: usize,
+    pub(crate) header: Header,
 }
 
 /// What an accepting `close` tells: how many events have passed, and how long the body was.
-#[derive(Clone, Copy)]
+#[derive(Clone, Copy, PartialEq, Eq, Debug)]
 pub struct Closed {
     pub events: usize,
     pub length: usize,

@@ -1,5 +1,5 @@
 /// What comes next in a body.
-#[derive(Clone, Copy)]
+#[derive(Clone, Copy, PartialEq, Eq, Debug)]
 pub enum Due {
     /// Nothing more.
     Done,

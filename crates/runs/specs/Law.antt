@@ -30,22 +30,22 @@ pub data Phase : Type 0 where
 
 -- a close ends the PDU unless its token is refused
 abbrev pub close_phase : Answer → Phase
-close_phase (answer.Opened c a b) = over
+close_phase (answer.Opened h) = over
 close_phase (answer.Gave e) = over
 close_phase answer.Done = over
 close_phase (answer.Skipped n) = over
-close_phase (answer.Closed n m) = over
+close_phase (answer.Closed k) = over
 close_phase (answer.Refused f) = cond (number_of f.cause == 2) running over
 
 abbrev pub phase_after : Phase → Call → Answer → Phase
 phase_after running call.Open a = running
 phase_after running (call.Next n) a = running
 phase_after running call.Skip a = running
-phase_after running (call.Close b n) a = close_phase a
+phase_after running (call.Close e) a = close_phase a
 phase_after over call.Open a = left
 phase_after over (call.Next n) a = over
 phase_after over call.Skip a = over
-phase_after over (call.Close b n) a = over
+phase_after over (call.Close e) a = over
 phase_after left c a = left
 
 -- how deep an event leads, where so much has begun
@@ -76,20 +76,20 @@ RefusedAgrees call.Open f more c d = (more ≡ []) × (d ≡ c)
 RefusedAgrees (call.Next n) f more c d = (more ≡ []) × (d ≡ c)
 -- what a skip passed before it was refused counts as passed
 RefusedAgrees call.Skip f more c d = (c ≤ d) × (d ≤ f.place)
-RefusedAgrees (call.Close b n) f more c d = (more ≡ []) × (d ≡ c)
+RefusedAgrees (call.Close e) f more c d = (more ≡ []) × (d ≡ c)
 
 abbrev pub Agrees : View → Moment → Answer → List Event → ℕ → ℕ → Type 0
-Agrees v m (answer.Opened a b n) more c d = ⊥
+Agrees v m (answer.Opened h) more c d = ⊥
 Agrees v m (answer.Gave e) more c d = (more ≡ shown (v.kept ++ v.coming) m.text e ∷ []) × (d ≡ m.count)
 Agrees v m answer.Done more c d = (more ≡ []) × (d ≡ c)
 Agrees v m (answer.Skipped n) more c d = (length more ≡ n) × (stretch 0 more ≡ n) × (d ≡ cond (n == 0) c m.count)
-Agrees v m (answer.Closed n l) more c d = (more ≡ []) × (d ≡ c)
+Agrees v m (answer.Closed k) more c d = (more ≡ []) × (d ≡ c)
 Agrees v m (answer.Refused f) more c d = RefusedAgrees m.call f more c d
 
 -- After these moments these events have passed since the last accepted open, which told this start and length; the last event at
 -- this count.
 pub data Passed (v : View) : List Moment → ℕ → ℕ → Phase → List Event → ℕ → Type 0 where
-  opens : (h : List Moment) (m : Moment) {caps start size : ℕ} → m.answer ≡ answer.Opened caps start size → m.count ≡ start → Passed v (h ++ (m ∷ [])) start size running [] start
+  opens : (h : List Moment) (m : Moment) {caps start size : ℕ} → m.answer ≡ answer.Opened (record { capabilities = caps; start = start; length = size }) → m.count ≡ start → Passed v (h ++ (m ∷ [])) start size running [] start
   moves : (h : List Moment) (m : Moment) {start size : ℕ} {p q : Phase} {es : List Event} {c d : ℕ} (more : List Event) → Passed v h start size p es c →
       q ≡ phase_after p m.call m.answer → Agrees v m m.answer more c d → Passed v (h ++ (m ∷ [])) start size q (es ++ more) d
 
@@ -117,8 +117,8 @@ pub record Declared (v : View) (start size : ℕ) (w : Value) : Type 0 where
 
 -- a close that is given the numbers of the open PDU
 pub record Closes (v : View) (start size : ℕ) (es : List Event) (a : Answer) : Type 0 where
-  pub accepts : (w : Value) → Declared v start size w → es ≡ events w → a ≡ answer.Closed (length es) size
-  pub accepted : (n l : ℕ) → a ≡ answer.Closed n l → (n ≡ length es) × (l ≡ size) × (w : Value) × Declared v start size w × (es ≡ events w)
+  pub accepts : (w : Value) → Declared v start size w → es ≡ events w → a ≡ answer.Closed (record { events = length es; length = size })
+  pub accepted : (n l : ℕ) → a ≡ answer.Closed (record { events = n; length = l }) → (n ≡ length es) × (l ≡ size) × (w : Value) × Declared v start size w × (es ≡ events w)
 
 -- the bytes that an event hands out
 abbrev pub hands_out : Event → Option (List ℕ)
@@ -155,7 +155,7 @@ Reads lends w es (call.Next room) a = record {
   cramped : Cramped lends w es room → (f : Refusal) × (a ≡ answer.Refused f) × (number_of f.cause ≡ 14);
 }
 Reads lends w es call.Skip a = a ≡ answer.Skipped (stretch 0 (drop (length es) (events w)))
-Reads lends w es (call.Close b n) a = Unit {0}
+Reads lends w es (call.Close e) a = Unit {0}
 
 abbrev pub limits : Bool → Limits
 limits true = lending
@@ -169,18 +169,18 @@ pub record Whole (lends : Bool) (v : View) (start size : ℕ) (w : Value) : Type
 
 -- the call after these events
 pub record GoesOn (lends : Bool) (v : View) (start size : ℕ) (p : Phase) (es : List Event) (m : Moment) : Type 0 where
-  pub closes : p ≡ running → m.call ≡ call.Close start size → Closes v start size es m.answer
+  pub closes : p ≡ running → m.call ≡ call.Close (record { start = start; length = size }) → Closes v start size es m.answer
   pub reads : p ≡ running → (w : Value) → Whole lends v start size w → Reads lends w es m.call m.answer
 
 -- ---- open accepts exactly when it should
 
 -- no call was refused for good
 abbrev pub KeptOpen : Answer → Type 0
-KeptOpen (answer.Opened c a b) = Unit {0}
+KeptOpen (answer.Opened h) = Unit {0}
 KeptOpen (answer.Gave e) = Unit {0}
 KeptOpen answer.Done = Unit {0}
 KeptOpen (answer.Skipped n) = Unit {0}
-KeptOpen (answer.Closed n l) = Unit {0}
+KeptOpen (answer.Closed k) = Unit {0}
 KeptOpen (answer.Refused f) = latching f.cause ≡ false
 
 abbrev pub Unlatched : List Moment → Type 0
@@ -209,19 +209,19 @@ abbrev pub NoneOpen : View → List Moment → Type 0
 NoneOpen v h = (start size : ℕ) (es : List Event) (c : ℕ) → Passed v h start size running es c → ⊥
 
 pub record Opens (v : View) (h : List Moment) (m : Moment) : Type 0 where
-  pub accepts : Unlatched h → NoneOpen v h → (caps start size : ℕ) → HeaderAt v (count_after v.count h) caps start size → m.answer ≡ answer.Opened caps start size
-  pub accepted : (caps start size : ℕ) → m.answer ≡ answer.Opened caps start size →
+  pub accepts : Unlatched h → NoneOpen v h → (caps start size : ℕ) → HeaderAt v (count_after v.count h) caps start size → m.answer ≡ answer.Opened (record { capabilities = caps; start = start; length = size })
+  pub accepted : (caps start size : ℕ) → m.answer ≡ answer.Opened (record { capabilities = caps; start = start; length = size }) →
       Unlatched h × NoneOpen v h × HeaderAt v (count_after v.count h) caps start size
 
 -- ---- the law
 
 -- nothing has been opened: every answer is a refusal, and nothing is counted
 abbrev pub Refuses : Answer → Type 0
-Refuses (answer.Opened c a b) = ⊥
+Refuses (answer.Opened h) = ⊥
 Refuses (answer.Gave e) = ⊥
 Refuses answer.Done = ⊥
 Refuses (answer.Skipped n) = ⊥
-Refuses (answer.Closed n l) = ⊥
+Refuses (answer.Closed k) = ⊥
 Refuses (answer.Refused f) = Unit {0}
 
 pub record Idle (m : Moment) : Type 0 where

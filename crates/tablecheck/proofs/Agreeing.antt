@@ -14,7 +14,7 @@ use Rattle.format.specs.declared.refusal.Refusal.{Refusal}
 use Rattle.format.specs.Integers.{bytes_of, little_endian, twos_complement}
 use Rattle.bunser.specs.declared.Header.{Header}
 use Rattle.bunser.specs.Outcome.{Outcome, got, bad, and_then, at, placed, judged, asked, answer, TellsAt}
-use Rattle.bunser.specs.Reads.{peek_read, padded, eight_read, int_width, behind_tag, tagged_int_read, count_of, told_as, count_read, magical, is_magic, magic_read, capabilities_read, bounded, length_read, header_read}
+use Rattle.bunser.specs.Reads.{peek_read, array_read, int_width, behind_tag, tagged_int_read, count_of, told_as, count_read, magical, is_magic, magic_read, capabilities_read, bounded, length_read, header_read}
 
 -- the same reader but for lending and copying, and for a stop that is far away; so many bytes are taken at most
 record Alike (most : ℕ) (v w : View) : Type 0 where
@@ -166,8 +166,8 @@ header_same : (v w : View) → Alike 0 v w → Same 15 (header_read true v) (hea
 unfolding header_read magic_read capabilities_read
 header_same v w a =
     same_then 2 15 (magic_read true None v) (magic_read false None w) (λ _ x. and_then (capabilities_read true None x) (length_read true None)) (λ _ x. and_then (capabilities_read false None x) (length_read false None))
-    (same_then 2 2 (placed v.count (eight_read true None 2 v)) (placed w.count (eight_read false None 2 w)) (is_magic v.count) (is_magic w.count)
-    (same_placed 2 v.count w.count (eight_read true None 2 v) (eight_read false None 2 w) a.count (taking 0 v w a 2 (padded 2) (omega arith)))
+    (same_then 2 2 (placed v.count (array_read true None 2 v)) (placed w.count (array_read false None 2 w)) (is_magic v.count) (is_magic w.count)
+    (same_placed 2 v.count w.count (array_read true None 2 v) (array_read false None 2 w) a.count (taking 0 v w a 2 (take 2) (omega arith)))
     (λ bs x y b. magic_same 2 v.count w.count bs x y a.count b))
     (λ _ x y b.
     same_then 6 15 (capabilities_read true None x) (capabilities_read false None y) (length_read true None) (length_read false None)
@@ -184,7 +184,3 @@ module _ (xs s a b : List ℕ) (i k ea eb : ℕ) (p : Bool) (o : Option ℕ) whe
     where
       alike : Alike 0 (slice_view s i p) (io_view (chained (record { bytes = a; ending = ea }) (record { bytes = b; ending = eb })) o k)
       alike = rw (is_s, is_i, is_p, clean_a, clean_b, is_o, is_k) (record { coming = sym parts; ending = refl; count = refl; peeked = refl; unstopped = refl; stops = refl; few = omega arith })
-
--- the two halves of a slice, as the code has them
-pub halves : (xs : List ℕ) (n m : ℕ) → m ≡ n → take m xs ++ take (length xs - n) (drop n xs) ≡ xs
-halves xs n m e = ap (λ l. take m xs ++ l) (take_rest xs n) ∙ ap (λ k. take k xs ++ drop n xs) e ∙ take-append-drop n xs

@@ -40,9 +40,9 @@ impl Findings {
         ensures { result.from_slice ≡ result.from_pieces }
     {
         let size = bytes.len();
-        let half = size / 2;
-        let first = PieceSource::new(&bytes[0..half], 7, 0);
-        let second = PieceSource::new(&bytes[half..], 64, 0);
+        let (front, back) = bytes.split_at(size / 2);
+        let first = PieceSource::new(front, 7, 0);
+        let second = PieceSource::new(back, 64, 0);
         let from_slice = header_of(SliceRead::new(bytes));
         let from_pieces = header_of(IoRead::new(Chain::new(first, second)));
         Findings {
@@ -112,18 +112,15 @@ fn examine(rt: &HostRuntime, path: &str) -> anyhow::Result<bool> {
 }
 
 fn run(rt: &HostRuntime) -> anyhow::Result<()> {
-    let mut files = 0usize;
-    let mut bad = 0usize;
-    for path in env::args(rt)?.skip(1) {
-        files = files.saturating_add(1);
-        if !examine(rt, path.as_str())? {
-            bad = bad.saturating_add(1);
-        }
-    }
-    if files == 0 {
+    let mut paths = env::args(rt)?.skip(1).peekable();
+    if paths.peek().is_none() {
         return Err(anyhow!("usage: tablecheck FILE.."));
     }
-    if bad > 0 {
+    let mut good = true;
+    for path in paths {
+        good &= examine(rt, path.as_str())?;
+    }
+    if !good {
         return Err(anyhow!("not all is well with every file"));
     }
     Ok(())

@@ -1,5 +1,5 @@
-use Rattle.std.proofs.Common.{◌≡◌, ◌-◌, ◌/◌, ◌++◌, length, take, ap, ◌∙◌, arith}
-use Rattle.tablecheck.proofs.Agreeing.{agree, halves}
+use Rattle.std.proofs.Common.{◌≡◌, ◌/◌, ◌++◌, length, take, ap, ◌∙◌, take-append-drop}
+use Rattle.tablecheck.proofs.Agreeing.{agree}
 use Rattle.tablecheck.proofs.Findings.of.Goals as goal
 
 pub returns : goal.returns
@@ -10,10 +10,10 @@ returns c =
     let front = c.new-first.ensures in
     let back = c.new-second.ensures in
     let xs = c.args.bytes.now in
-    let half : length xs / 2 - 0 ≡ length xs / 2 = omega arith in
     let first = ap (λ x. x.first.rest.now) io.0 ∙ ap (λ x. x.rest.now) chain.0 ∙ front.0 in
     let second = ap (λ x. x.second.rest.now) io.0 ∙ ap (λ x. x.rest.now) chain.1 ∙ back.0 in
-    let parts = ap (λ l. l ++ c.new-3.result.source.second.rest.now) first ∙ ap (λ l. take (length xs / 2 - 0) xs ++ l) second ∙ halves xs (length xs / 2) (length xs / 2 - 0) half in
+    let cut = c.split_at.ensures in
+    let parts = ap (λ l. l ++ c.new-3.result.source.second.rest.now) (first ∙ cut.front) ∙ ap (λ l. take (length xs / 2) xs ++ l) (second ∙ cut.back) ∙ take-append-drop (length xs / 2) xs in
     agree c.args.bytes.now _ _ _ _ _ _ _ _ _ slice.0 slice.1 slice.2 parts
     (ap (λ x. x.first.ending) io.0 ∙ ap (λ x. x.ending) chain.0 ∙ front.2)
     (ap (λ x. x.second.ending) io.0 ∙ ap (λ x. x.ending) chain.1 ∙ back.2)
