@@ -1,7 +1,6 @@
 -- The number that bytes are, the lowest first.
 use Rattle.std.proofs.Common.{◌≡◌, ℕ, zero, suc, ◌+◌, ◌*◌, ◌^◌, List, [], ◌∷◌, length, get_or, sym, refl, ap, ◌∙◌, pow-suc, mul_assoc, mul_comm, arith}
 use Rattle.std.specs.Int.{byte_worth, sum_through}
-use Rattle.format.specs.declared.width.Width.TheVariants.{W8, W16, W32, W64}
 use Rattle.format.specs.Integers.{little_endian}
 
 shifted : (f : ℕ → ℕ) (k : ℕ) → sum_through f (suc k) ≡ f 0 + sum_through (λ i. f (suc i)) k

@@ -8,12 +8,19 @@ use Rattle.format.specs.declared.refusal.ReadError.{ReadError}
 use Rattle.format.specs.declared.refusal.ReadError.TheVariants.{Byte, NotText}
 use Rattle.format.specs.declared.refusal.Kind.{Kind}
 use Rattle.format.specs.declared.refusal.Refusal.{Refusal}
+use Rattle.bunser.specs.declared.text.TextKind.{TextKind}
+use Rattle.bunser.specs.declared.text.TextKind.TheVariants as kind
 use Rattle.bunser.specs.declared.text.Reference.{Reference}
 use Rattle.bunser.specs.declared.text.Reference.TheVariants as reference
 use Rattle.bunser.specs.Outcome.{Outcome, got, bad, and_then, at, placed}
 use Rattle.bunser.specs.Reads.{peek_read, bytes_read, fronts, count_read}
 
 -- ---- what has to be UTF-8
+
+abbrev pub checked : TextKind → Bool
+checked kind.Bytes = false
+checked kind.Text = true
+checked kind.Key = true
 
 abbrev pub textual : Bool → Taken → View → Outcome ReadError Taken
 textual true t w = got t w

@@ -4,8 +4,10 @@ ghost use Rattle.utf8.specs.Pieces.{await, complete};
 ghost use Rattle.read.specs.Reader.{past, room};
 ghost use Rattle.bunser.specs.Outcome.{Tells, Reads};
 ghost use Rattle.bunser.specs.Passing.{verdict_of, whole_read, pass_read};
+ghost use Rattle.bunser.specs.Texts.{checked};
 
 use super::Bunser;
+use super::text::{TextKind, Unread};
 use format::refusal::ReadError;
 use read::{DeRead, Taken};
 use utf8::pieces::Awaited;
@@ -13,10 +15,10 @@ use utf8::pieces::Awaited;
 const PIECE: usize = 64;
 
 // A text that is checked has to end where a character does.
-fn verdict(checked: bool, awaited: Awaited) -> Result<(), ReadError>
-    ensures { result ≡ verdict_of checked (complete (await awaited)) }
+fn verdict(kind: TextKind, awaited: Awaited) -> Result<(), ReadError>
+    ensures { result ≡ verdict_of (checked kind) (complete (await awaited)) }
 {
-    if checked && !awaited.is_complete() {
+    if kind.is_checked() && !awaited.is_complete() {
         return Err(ReadError::NotText);
     }
     Ok(())
@@ -24,43 +26,43 @@ fn verdict(checked: bool, awaited: Awaited) -> Result<(), ReadError>
 
 impl<R: DeRead> Bunser<R> {
     // A text of a reader that copies, where it is known to stay before the end and the stop.
-    fn pass_pieces(&mut self, n: usize, checked: bool) -> Result<(), ReadError>
+    fn pass_pieces(&mut self, text: Unread) -> Result<(), ReadError>
         requires copies { R.DeRead.lends ≡ false }
-        requires ends { past self.old.end ((R.DeRead.view self.old.read).count + n) ≡ false }
-        requires stops { past (R.DeRead.view self.old.read).stop ((R.DeRead.view self.old.read).count + n) ≡ false }
-        ensures { Reads R.DeRead.view self.old self.new (λ end v. Tells (pass_read checked R.DeRead.lends end n v) result) }
+        requires ends { past self.old.end ((R.DeRead.view self.old.read).count + text.len) ≡ false }
+        requires stops { past (R.DeRead.view self.old.read).stop ((R.DeRead.view self.old.read).count + text.len) ≡ false }
+        ensures { Reads R.DeRead.view self.old self.new (λ end v. Tells (pass_read (checked text.kind) R.DeRead.lends end text.len v) result) }
     {
         let mut piece = [0u8; PIECE];
         let mut awaited = Awaited::Character;
-        for _ in 0..n / PIECE {
+        for _ in 0..text.len / PIECE {
             let _taken = self.read_bytes(PIECE, &mut piece)?;
             awaited = awaited.after(&piece);
         }
-        let left = n % PIECE;
+        let left = text.len % PIECE;
         let _taken = self.read_bytes(left, &mut piece)?;
-        verdict(checked, awaited.after(&piece[..left]))
+        verdict(text.kind, awaited.after(&piece[..left]))
     }
 
     // A text in one read without a buffer, in which a reader that copies has no room for it.
-    fn take_whole(&mut self, n: usize, checked: bool) -> Result<Taken, ReadError>
-        ensures { Reads R.DeRead.view self.old self.new (λ end v. Tells (whole_read checked R.DeRead.lends end (room R.DeRead.lends []) n v) result) }
+    fn take_whole(&mut self, text: Unread) -> Result<Taken, ReadError>
+        ensures { Reads R.DeRead.view self.old self.new (λ end v. Tells (whole_read (checked text.kind) R.DeRead.lends end (room R.DeRead.lends []) text.len v) result) }
     {
         let mut none = [0u8; 0];
-        if checked {
-            self.next_text(n, &mut none)
+        if text.kind.is_checked() {
+            self.next_text(text.len, &mut none)
         } else {
-            self.read_bytes(n, &mut none)
+            self.read_bytes(text.len, &mut none)
         }
     }
 
-    /// Passes a text of n bytes over: in one read where the reader lends, else in pieces.
-    pub fn pass_text(&mut self, n: usize, checked: bool) -> Result<(), ReadError>
-        ensures { Reads R.DeRead.view self.old self.new (λ end v. Tells (pass_read checked R.DeRead.lends end n v) result) }
+    /// Passes a text over: in one read where the reader lends, else in pieces.
+    pub fn pass_text(&mut self, text: Unread) -> Result<(), ReadError>
+        ensures { Reads R.DeRead.view self.old self.new (λ end v. Tells (pass_read (checked text.kind) R.DeRead.lends end text.len v) result) }
     {
-        match self.take_whole(n, checked) {
+        match self.take_whole(text) {
             Ok(_) => Ok(()),
             Err(error) => match error {
-                ReadError::Room => self.pass_pieces(n, checked),
+                ReadError::Room => self.pass_pieces(text),
                 _ => Err(error),
             },
         }

@@ -5,13 +5,37 @@ ghost use Rattle.read.specs.declared.Taken.TheVariants as taken_as;
 ghost use Rattle.read.specs.Reader.{room, put};
 ghost use Rattle.format.specs.declared.refusal.ReadError.TheVariants.{Room};
 ghost use Rattle.bunser.specs.Outcome.{at, asked, Tells, TellsAt, Reads};
-ghost use Rattle.bunser.specs.Texts.{begins_key, placed_count, key_length_read, text_read, text_fronts, part_of, spanned, referred, is_lent, bytes_of, is_borrowed, is_text};
+ghost use Rattle.bunser.specs.Texts.{checked, begins_key, placed_count, key_length_read, text_read, text_fronts, part_of, spanned, referred, is_lent, bytes_of, is_borrowed, is_text};
 
 use super::{Bunser, placed};
 use format::refusal::{Kind, ReadError, Refusal};
 use format::tags::Tag;
 use read::{DeRead, Taken};
 use utf8::is_utf8;
+
+/// What a text is, whose tag and length were taken.
+#[derive(Clone, Copy, PartialEq, Eq, Debug)]
+pub enum TextKind {
+    Bytes,
+    Text,
+    Key,
+}
+
+impl TextKind {
+    /// Whether the bytes have to be UTF-8.
+    pub fn is_checked(self) -> bool
+        ensures { result ≡ checked self }
+    {
+        !matches!(self, TextKind::Bytes)
+    }
+}
+
+/// A text whose tag and length were taken, and whose event has not passed.
+#[derive(Clone, Copy, PartialEq, Eq, Debug)]
+pub struct Unread {
+    pub kind: TextKind,
+    pub len: usize,
+}
 
 /// Where the bytes of a text lie, and how many they are.
 #[derive(Clone, Copy, PartialEq, Eq, Debug)]

@@ -12,7 +12,7 @@ use Rattle.bunser.specs.Outcome.{Outcome, got, bad}
 use Rattle.bunser.specs.Reads.{header_read}
 use Rattle.room.specs.Open.{Open, start, nesting}
 use Rattle.de.specs.declared.event.Event.{Event}
-use Rattle.de.specs.declared.event.Unread.{Unread}
+use Rattle.bunser.specs.declared.text.Unread.{Unread}
 use Rattle.de.specs.declared.event.Refused.{Refused}
 use Rattle.de.specs.declared.pdu.Extent.{Extent}
 use Rattle.de.specs.declared.pdu.PduInfo.{PduInfo}

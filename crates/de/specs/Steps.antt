@@ -24,9 +24,9 @@ use Rattle.room.specs.Open as room
 use Rattle.room.specs.KeyList.{key_list_read}
 use Rattle.de.specs.declared.event.Event.{Event}
 use Rattle.de.specs.declared.event.Event.TheVariants as event
-use Rattle.de.specs.declared.event.TextKind.{TextKind}
-use Rattle.de.specs.declared.event.TextKind.TheVariants as text
-use Rattle.de.specs.declared.event.Unread.{Unread}
+use Rattle.bunser.specs.declared.text.TextKind.{TextKind}
+use Rattle.bunser.specs.declared.text.TextKind.TheVariants as text
+use Rattle.bunser.specs.declared.text.Unread.{Unread}
 use Rattle.de.specs.declared.event.Refused.{Refused}
 
 -- what is held of a body between two events

@@ -21,21 +21,6 @@ pub enum Event {
     Absent,
 }
 
-/// What a text is, whose tag and length were taken.
-#[derive(Clone, Copy, PartialEq, Eq, Debug)]
-pub enum TextKind {
-    Bytes,
-    Text,
-    Key,
-}
-
-/// A text whose tag and length were taken, and whose event has not passed.
-#[derive(Clone, Copy, PartialEq, Eq, Debug)]
-pub struct Unread {
-    pub kind: TextKind,
-    pub len: usize,
-}
-
 /// A call was refused. The decoder tells the refusal with its place and its cause.
 #[derive(Clone, Copy, PartialEq, Eq, Debug)]
 pub struct Refused {

@@ -5,9 +5,9 @@ use Rattle.values.specs.Values.{Value, null, yes_value, no_value, integer, real,
 use Rattle.values.specs.Limits.{Limits, LevelFree, RoomForKeys, RoomForKeyBytes, RowsKeyed, key_bytes}
 use Rattle.room.specs.Open.{Column, lent, copied, Open}
 use Rattle.room.specs.Open as open_as
-use Rattle.de.specs.declared.event.TextKind.{TextKind}
-use Rattle.de.specs.declared.event.TextKind.TheVariants as kind
-use Rattle.de.specs.declared.event.Unread.{Unread}
+use Rattle.bunser.specs.declared.text.TextKind.{TextKind}
+use Rattle.bunser.specs.declared.text.TextKind.TheVariants as kind
+use Rattle.bunser.specs.declared.text.Unread.{Unread}
 
 -- ---- what is open, with the names of the columns
 
