@@ -26,7 +26,7 @@ giving xs e = record { bytes = xs; ending = e }
 
 -- n bytes have come
 abbrev pub after : ℕ → Feed → Feed
-after n f = record { bytes = drop n f.bytes; ending = f.ending }
+after n f = record f { bytes = drop n f.bytes }
 
 -- a list of bytes is put to the front of a buffer
 abbrev pub fronted : List ℕ → List ℕ → List ℕ
