@@ -41,8 +41,8 @@ impl Findings {
     {
         let size = bytes.len();
         let half = size / 2;
-        let first = PieceSource::new(&bytes[0..half], 7, 0);
-        let second = PieceSource::new(&bytes[half..], 64, 0);
+        let first = PieceSource::new(&bytes[0..half], 7, None);
+        let second = PieceSource::new(&bytes[half..], 64, None);
         let from_slice = header_of(SliceRead::new(bytes));
         let from_pieces = header_of(IoRead::new(Chain::new(first, second)));
         Findings {
