@@ -5,10 +5,10 @@ use Rattle.std.proofs.lemmas.List.{take_all, take_at}
 use Rattle.utf8.specs.Utf8.{Await, character, utf8}
 use Rattle.utf8.specs.Pieces.{all_turned, complete}
 use Rattle.utf8.proofs.Turning.{turned_on, judged_in_pieces}
+use Rattle.source.specs.declared.SourceFault.{SourceFault}
 use Rattle.read.specs.declared.Taken.{Taken}
 use Rattle.read.specs.declared.Taken.TheVariants.{Copied}
 use Rattle.read.specs.Reader.{View, Spent, past, room, shortfall, advanced, put}
-use Rattle.read.specs.declared.Fault.TheVariants as fault
 use Rattle.format.specs.declared.refusal.ReadError.{ReadError}
 use Rattle.format.specs.declared.refusal.ReadError.TheVariants.{Short, Source, NotText}
 use Rattle.format.specs.Faults.{error_of}
@@ -133,18 +133,18 @@ module _ (end : Option ℕ) (n : ℕ) (v w : View) (left : ℕ) (a : Await) (d :
 
       pub drawn_short : (checked : Bool) (e : ReadError) (u : View) → length w.coming < k → e ≡ error_of (shortfall v.ending) → ReadLeaves e w u → Tells (pass_read checked false end n v) (Err e) u
       unfolding pass_read
-      drawn_short checked e u short is leaves = go (eqb v.ending 0) refl
+      drawn_short checked e u short is leaves = go v.ending refl
         where
           there_again : w ≡ advanced false (64 * (length v.coming / 64)) v
           there_again = d.reader ∙ ap (λ m. advanced false m v) (sym (quotient short))
 
-          go : (b : Bool) → eqb v.ending 0 ≡ b → Tells (passing false (whole_read checked false end None n v)) (Err e) u
-          go true z =
-              let s : error_of (shortfall v.ending) ≡ Short = ap (λ b. error_of (cond b fault.Short (fault.Source v.ending))) z in
+          go : (o : Option SourceFault) → v.ending ≡ o → Tells (passing false (whole_read checked false end None n v)) (Err e) u
+          go None z =
+              let s : error_of (shortfall v.ending) ≡ Short = ap (λ o. error_of (shortfall o)) z in
               subst (λ m. Tells (passing false m) (Err e) u) (sym (whole_refused checked Short short s)) (ap Err (is ∙ s), subst (λ x. Spent x u) there_again (subst (λ e. ReadLeaves e w u) (is ∙ s) leaves))
-          go false z =
-              let s : error_of (shortfall v.ending) ≡ Source v.ending = ap (λ b. error_of (cond b fault.Short (fault.Source v.ending))) z in
-              subst (λ m. Tells (passing false m) (Err e) u) (sym (whole_refused checked (Source v.ending) short s)) (ap Err (is ∙ s), subst (λ x. Spent x u) there_again (subst (λ e. ReadLeaves e w u) (is ∙ s) leaves))
+          go (Some f) z =
+              let s : error_of (shortfall v.ending) ≡ Source f.0 = ap (λ o. error_of (shortfall o)) z in
+              subst (λ m. Tells (passing false m) (Err e) u) (sym (whole_refused checked (Source f.0) short s)) (ap Err (is ∙ s), subst (λ x. Spent x u) there_again (subst (λ e. ReadLeaves e w u) (is ∙ s) leaves))
 
       -- a piece is refused only for want of bytes
       pub drawn_stop : (checked : Bool) (e : ReadError) (u : View) → Tells (bytes_read false end (Some 64) k w) (Err e) u → Tells (pass_read checked false end n v) (Err e) u

@@ -1,9 +1,10 @@
 -- A text that is passed over in one read, or refused in one.
-use Rattle.std.proofs.Common.{◌≡◌, ℕ, zero, suc, ◌+◌, Bool, true, false, cond, eqb, ltb, [], length, take, Some, None, Ok, Err, Option, Result, sym, refl, ap, ◌∙◌, subst, arith}
+use Rattle.std.proofs.Common.{◌≡◌, ℕ, zero, suc, ◌+◌, Bool, true, false, cond, ltb, [], length, take, Some, None, Ok, Err, Option, Result, sym, refl, ap, ◌∙◌, subst, arith}
 use Rattle.std.proofs.lemmas.Bool.{le-ltb, lt-ltb}
+use Rattle.source.specs.declared.SourceFault.{SourceFault}
 use Rattle.read.specs.declared.Taken.{Taken}
 use Rattle.read.specs.declared.Fault.TheVariants as fault
-use Rattle.read.specs.Reader.{View, past, room, lies, advanced}
+use Rattle.read.specs.Reader.{View, past, room, shortfall, lies, advanced}
 use Rattle.format.specs.declared.refusal.ReadError.{ReadError}
 use Rattle.format.specs.declared.refusal.ReadError.TheVariants.{End, Stop, Room, Short, Source, Magic, Byte, Negative, TooLong, NotText}
 use Rattle.utf8.specs.Utf8.{utf8}
@@ -85,14 +86,14 @@ fate end n v = go (past end (v.count + n)) refl (past v.stop (v.count + n)) refl
 
 -- no read without a buffer is refused for want of room
 never_room : (end : Option ℕ) (n : ℕ) (v : View) → asked end v None n ≡ Some Room → ⊥
-never_room end n v h = go (past end (v.count + n)) (past v.stop (v.count + n)) (ltb (length v.coming) n) (eqb v.ending 0) h
+never_room end n v h = go (past end (v.count + n)) (past v.stop (v.count + n)) (ltb (length v.coming) n) v.ending h
   where
-    go : (b c d z : Bool) → judged b (cond c (Some fault.Stop) (cond d (Some (cond z fault.Short (fault.Source v.ending))) None)) ≡ Some Room → ⊥
-    go true c d z h = cc
-    go false true d z h = cc
-    go false false true true h = cc
-    go false false true false h = cc
-    go false false false z h = cc
+    go : (b c d : Bool) (o : Option SourceFault) → judged b (cond c (Some fault.Stop) (cond d (Some (shortfall o)) None)) ≡ Some Room → ⊥
+    go true c d o h = cc
+    go false true d o h = cc
+    go false false true None h = cc
+    go false false true (Some f) h = cc
+    go false false false o h = cc
 
 module _ (checked lends : Bool) (end : Option ℕ) (n : ℕ) (v : View) where
   whole_bad : (space : Option ℕ) (e : ReadError) → asked end v space n ≡ Some e → whole_read checked lends end space n v ≡ bad e v

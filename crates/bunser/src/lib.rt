@@ -9,7 +9,7 @@ ghost use Rattle.bunser.specs.Reads.{peek_read, bytes_read, fronts, lent_or, arr
 use format::refusal::{Kind, ReadError, Refusal};
 use format::tags::{FARTHEST, MAGIC};
 use format::width::Width;
-use read::{DeRead, Taken};
+use read::{DeRead, Taken, passes};
 
 pub mod passing;
 pub mod text;
@@ -30,15 +30,6 @@ pub struct Header {
 pub struct Bunser<R: DeRead> {
     read: R,
     end: Option<usize>,
-}
-
-fn passes(end: Option<usize>, at: usize, n: usize) -> bool
-    ensures { result ≡ past end (at + n) }
-{
-    let Some(end) = end else {
-        return false;
-    };
-    at > end || n > end - at
 }
 
 // Copies what was lent. Bytes that were copied stand there already.

@@ -4,6 +4,7 @@ use read::DeRead;
 use read::fence::Fence;
 use read::io::IoRead;
 use read::slice::SliceRead;
+use source::SourceFault;
 use source::chain::Chain;
 use source::piece::PieceSource;
 use std::process::Abort;
@@ -22,12 +23,12 @@ fn accepted(rt: &impl Abort, bytes: &[u8], capabilities: u32, start: usize, leng
     accepts(rt, SliceRead::new(bytes), header);
     accepts(rt, Fence::new(SliceRead::new(bytes), start), header);
     for most in 1..4 {
-        accepts(rt, IoRead::new(PieceSource::new(bytes, most, 0)), header);
+        accepts(rt, IoRead::new(PieceSource::new(bytes, most, None)), header);
     }
     let half = bytes.len() / 2;
     let chain = Chain::new(
-        PieceSource::new(&bytes[0..half], 64, 0),
-        PieceSource::new(&bytes[half..], 64, 9),
+        PieceSource::new(&bytes[0..half], 64, None),
+        PieceSource::new(&bytes[half..], 64, Some(SourceFault(9))),
     );
     accepts(rt, IoRead::new(chain), header);
 }
@@ -82,7 +83,7 @@ fn refused(rt: &impl Abort, bytes: &[u8], place: usize, error: ReadError, count:
     for most in 1..4 {
         refuses(
             rt,
-            IoRead::new(PieceSource::new(bytes, most, 0)),
+            IoRead::new(PieceSource::new(bytes, most, None)),
             place,
             error,
             count,
@@ -109,21 +110,21 @@ fn a_header_that_is_cut_short(rt: HostRuntime) {
 fn a_header_before_a_fault(rt: HostRuntime) {
     refuses(
         &rt,
-        IoRead::new(PieceSource::new(b"\x00", 1, 65_535)),
+        IoRead::new(PieceSource::new(b"\x00", 1, Some(SourceFault(65_535)))),
         0,
         ReadError::Source(65_535),
         0,
     );
     refuses(
         &rt,
-        IoRead::new(PieceSource::new(b"\x00\x02\x00", 1, 8)),
+        IoRead::new(PieceSource::new(b"\x00\x02\x00", 1, Some(SourceFault(8)))),
         2,
         ReadError::Source(8),
         2,
     );
     let chain = Chain::new(
-        PieceSource::new(b"\x00\x02\x00\x00\x00\x00\x05\x01", 3, 1),
-        PieceSource::new(b"\x00\x00\x00", 3, 0),
+        PieceSource::new(b"\x00\x02\x00\x00\x00\x00\x05\x01", 3, Some(SourceFault(1))),
+        PieceSource::new(b"\x00\x00\x00", 3, None),
     );
     refuses(&rt, IoRead::new(chain), 6, ReadError::Source(1), 7);
 }
@@ -187,7 +188,7 @@ fn a_header_at_a_stop(rt: HostRuntime) {
     );
     refuses(
         &rt,
-        Fence::new(IoRead::new(PieceSource::new(bytes, 1, 0)), 8),
+        Fence::new(IoRead::new(PieceSource::new(bytes, 1, None)), 8),
         6,
         ReadError::Stop,
         7,

@@ -3,6 +3,7 @@ use format::refusal::{Kind, ReadError};
 use read::DeRead;
 use read::io::IoRead;
 use read::slice::SliceRead;
+use source::SourceFault;
 use source::piece::PieceSource;
 use std::process::Abort;
 
@@ -17,7 +18,7 @@ fn int(rt: &impl Abort, bytes: &[u8], value: i64) {
     for most in 1..5 {
         one_int(
             rt,
-            IoRead::new(PieceSource::new(bytes, most, 0)),
+            IoRead::new(PieceSource::new(bytes, most, None)),
             value,
             bytes.len(),
         );
@@ -69,7 +70,7 @@ fn what_is_no_integer_is_not_taken(rt: HostRuntime) {
             );
             no_int(
                 &rt,
-                IoRead::new(PieceSource::new(&bytes, 1, 0)),
+                IoRead::new(PieceSource::new(&bytes, 1, None)),
                 ReadError::Byte(Kind::Integer, tag),
                 0,
             );
@@ -89,13 +90,13 @@ fn a_cut_number_has_its_tag_taken(rt: HostRuntime) {
     );
     no_int(
         &rt,
-        IoRead::new(PieceSource::new(b"\x05\x01\x02\x03", 2, 0)),
+        IoRead::new(PieceSource::new(b"\x05\x01\x02\x03", 2, None)),
         ReadError::Short,
         1,
     );
     no_int(
         &rt,
-        IoRead::new(PieceSource::new(b"\x04\x01", 9, 77)),
+        IoRead::new(PieceSource::new(b"\x04\x01", 9, Some(SourceFault(77)))),
         ReadError::Source(77),
         1,
     );
@@ -107,7 +108,7 @@ fn a_count_is_not_negative(rt: HostRuntime) {
     assert_eq!(rt; none.next_count(), Ok(0));
     let mut most = Bunser::new(SliceRead::new(b"\x06\xff\xff\xff\xff\xff\xff\xff\x7f"));
     assert_eq!(rt; most.next_count(), Ok(0x7fff_ffff_ffff_ffff));
-    let mut less = Bunser::new(IoRead::new(PieceSource::new(b"\x04\xff\xff", 1, 0)));
+    let mut less = Bunser::new(IoRead::new(PieceSource::new(b"\x04\xff\xff", 1, None)));
     assert_eq!(rt; less.next_count(), Err(ReadError::Negative));
     assert_eq!(rt; less.read_count(), 3, "the integer has been taken");
 }

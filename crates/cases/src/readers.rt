@@ -2,6 +2,7 @@ use read::fence::Fence;
 use read::io::IoRead;
 use read::slice::SliceRead;
 use read::{DeRead, Fault, Taken};
+use source::SourceFault;
 use source::chain::Chain;
 use source::piece::PieceSource;
 use source::slice::SliceSource;
@@ -51,10 +52,10 @@ fn every_reader_gives_the_same_bytes(rt: HostRuntime) -> Result<(), Fail> {
     zero_to_four(&rt, &mut SliceRead::new(&bytes))?;
     zero_to_four(&rt, &mut Fence::new(SliceRead::new(&bytes), 6))?;
     for most in 0..7 {
-        zero_to_four(&rt, &mut IoRead::new(PieceSource::new(&bytes, most, 0)))?;
+        zero_to_four(&rt, &mut IoRead::new(PieceSource::new(&bytes, most, None)))?;
         let chain = Chain::new(
             SliceSource::new(&bytes[0..2]),
-            PieceSource::new(&bytes[2..], most, 0),
+            PieceSource::new(&bytes[2..], most, None),
         );
         zero_to_four(&rt, &mut Fence::new(IoRead::new(chain), 6))?;
     }
@@ -99,7 +100,10 @@ fn a_stop_may_be_reached_and_not_passed(rt: HostRuntime) {
     stops_at_three(&rt, &mut Fence::new(SliceRead::new(&bytes), 3));
     stops_at_three(
         &rt,
-        &mut Fence::new(IoRead::new(PieceSource::new(&bytes, 2, 4)), 3),
+        &mut Fence::new(
+            IoRead::new(PieceSource::new(&bytes, 2, Some(SourceFault(4)))),
+            3,
+        ),
     );
     stops_at_three(
         &rt,
@@ -153,14 +157,14 @@ fn no_bytes_leave_the_peeked_byte(rt: HostRuntime) {
     peeked_outlasts_no_bytes(&rt, &mut IoRead::new(SliceSource::new(b"xy")));
     peeked_outlasts_no_bytes(
         &rt,
-        &mut Fence::new(IoRead::new(PieceSource::new(b"xy", 0, 0)), 2),
+        &mut Fence::new(IoRead::new(PieceSource::new(b"xy", 0, None)), 2),
     );
 }
 
 #[test]
 fn a_shortfall_zeroes_the_front_of_the_buffer(rt: HostRuntime) {
     for most in 1..4 {
-        let mut r = IoRead::new(PieceSource::new(b"ab", most, 65_535));
+        let mut r = IoRead::new(PieceSource::new(b"ab", most, Some(SourceFault(65_535))));
         let mut buf = [0xee; 5];
         assert_eq!(rt; r.peek(), Ok(0x61));
         assert_eq!(rt; r.next_bytes(4, &mut buf), Err(Fault::Source(65_535)));

@@ -1,3 +1,4 @@
 pub mod Reader
 pub mod Held
 pub mod Sound
+pub mod Slice

@@ -1,7 +1,10 @@
 -- What a reader means, and what each of its calls does to that meaning.
-use Rattle.std.specs.Prelude.{◌≡◌, ℕ, ◌+◌, ◌<◌, ◌≤◌, min, Bool, true, false, cond, List, [], ◌∷◌, ◌++◌, length, take, drop, replicate, Some, None, Ok, Err, Option, Result, ◌==◌, nat_lt, slice_index}
+use Rattle.std.specs.Prelude.{◌≡◌, ℕ, ◌+◌, ◌≤◌, min, Bool, true, false, cond, List, [], ◌∷◌, ◌++◌, length, take, drop, replicate, Some, None, Ok, Err, Option, Result, ◌==◌, nat_lt, slice_index}
 use Rattle.source.specs.Bytes.{Octets}
-use Rattle.source.specs.Feed.{fronted}
+use Rattle.source.specs.declared.SourceFault.{SourceFault}
+use Rattle.source.specs.declared.FillError.{FillError}
+use Rattle.source.specs.declared.FillError.TheVariants as fill
+use Rattle.source.specs.Feed.{Coded, fronted, unfilled}
 use Rattle.read.specs.declared.Fault.{Fault}
 use Rattle.read.specs.declared.Fault.TheVariants.{Stop, Room, Short, Source}
 use Rattle.read.specs.declared.Taken.{Taken}
@@ -10,8 +13,8 @@ use Rattle.read.specs.declared.Taken.TheVariants.{Lent, Copied}
 -- A reader by its meaning. A peeked byte is still to come and not counted.
 pub record View : Type 0 where
   pub coming : List ℕ
-  -- 0 for a clean end, else the code of a fault
-  pub ending : ℕ
+  -- the source's fault, or a clean end
+  pub ending : Option SourceFault
   -- how many bytes were taken
   pub count : ℕ
   -- the count that no read may pass
@@ -25,7 +28,7 @@ pub record Sound (lends : Bool) (v : View) : Type 0 where
   pub kept_octets : Octets v.kept
   pub kept_all : length v.kept ≡ cond lends v.count 0
   pub held_there : v.peeked ≡ true → 1 ≤ length v.coming
-  pub coded : v.ending < 65536
+  pub coded : Coded v.ending
 
 -- ---- refusals
 
@@ -44,9 +47,14 @@ abbrev pub cramped : Option ℕ → ℕ → Bool
 cramped None n = false
 cramped (Some r) n = nat_lt r n
 
+-- how a buffer that was not filled is told
+abbrev pub fault_of : FillError → Fault
+fault_of fill.End = Short
+fault_of (fill.Fault f) = Source f.0
+
 -- too few bytes come before this ending
-abbrev pub shortfall : ℕ → Fault
-shortfall e = cond (e == 0) Short (Source e)
+abbrev pub shortfall : Option SourceFault → Fault
+shortfall e = fault_of (unfilled e)
 
 -- How a request for n bytes is refused: the stop is asked first, then the room, then the bytes.
 abbrev pub refusal : View → Option ℕ → ℕ → Option Fault
@@ -80,7 +88,7 @@ Leaves (Source c) v w = Spent v w
 
 -- the first byte to come is held
 abbrev pub held : View → View
-held v = record { coming = v.coming; ending = v.ending; count = v.count; stop = v.stop; peeked = true; kept = v.kept }
+held v = record v { peeked = true }
 
 -- the bytes kept once these are taken
 abbrev pub keeping : Bool → List ℕ → List ℕ → List ℕ
@@ -89,7 +97,7 @@ keeping false kept more = kept
 
 -- n bytes are taken, a peeked one among them unless n is 0
 abbrev pub advanced : Bool → ℕ → View → View
-advanced lends n v = record { coming = drop n v.coming; ending = v.ending; count = v.count + n; stop = v.stop; peeked = cond (n == 0) v.peeked false; kept = keeping lends v.kept (take n v.coming) }
+advanced lends n v = record v { coming = drop n v.coming; count = v.count + n; peeked = cond (n == 0) v.peeked false; kept = keeping lends v.kept (take n v.coming) }
 
 -- ---- the calls
 
@@ -147,4 +155,4 @@ nearer n (Some m) = Some (min n m)
 
 -- a reader with a stop of its own: the smaller of two stops, all else as below
 abbrev pub fenced : ℕ → View → View
-fenced n v = record { coming = v.coming; ending = v.ending; count = v.count; stop = nearer n v.stop; peeked = v.peeked; kept = v.kept }
+fenced n v = record v { stop = nearer n v.stop }

@@ -1,8 +1,8 @@
-ghost use Rattle.std.specs.Prelude.{◌≡◌, ◌+◌, nat_lt};
-ghost use Rattle.read.specs.Reader.{fenced};
+ghost use Rattle.std.specs.Prelude.{◌≡◌, ◌+◌};
+ghost use Rattle.read.specs.Reader.{past, fenced};
 ghost use Rattle.read.specs.Sound.{fence_sound};
 
-use super::{DeRead, Fault, Taken};
+use super::{DeRead, Fault, Taken, passes};
 
 /// A reader with a stop of its own over any reader: the smaller of the two stops holds, and all
 /// else is as below.
@@ -29,10 +29,9 @@ impl<R: DeRead> Fence<R> {
 
     // Whether a read of n bytes passes the fence.
     fn bars(&self, n: usize) -> bool
-        ensures { result ≡ nat_lt self.now.stop ((R.DeRead.view self.now.below).count + n) }
+        ensures { result ≡ past (Some self.now.stop) ((R.DeRead.view self.now.below).count + n) }
     {
-        let at = self.below.read_count();
-        at > self.stop || n > self.stop - at
+        passes(Some(self.stop), self.below.read_count(), n)
     }
 }
 

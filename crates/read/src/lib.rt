@@ -1,8 +1,10 @@
 //! Readers: bytes that are taken one by one or several at once, and counted.
 #![tactic(auto)]
 
-ghost use Rattle.std.specs.Prelude.{◌≡◌, Bool, Some, None, MatchOption};
-ghost use Rattle.read.specs.Reader.{View, Sound, Peek, Next, discarded, NextBytes, kept_at, lent_part};
+ghost use Rattle.std.specs.Prelude.{◌≡◌, ◌+◌, Bool, Some, None, MatchOption};
+ghost use Rattle.read.specs.Reader.{View, Sound, past, fault_of, Peek, Next, discarded, NextBytes, kept_at, lent_part};
+
+use source::FillError;
 
 pub mod fence;
 pub mod io;
@@ -19,6 +21,24 @@ pub enum Fault {
     Short,
     /// Too few bytes come before the source's fault, which has this code.
     Source(u16),
+}
+
+impl From<FillError> for Fault {
+    ghost from_gives = { λ e fault. fault ≡ fault_of e };
+
+    fn from(e: FillError) -> Fault {
+        match e {
+            FillError::End => Fault::Short,
+            FillError::Fault(fault) => Fault::Source(fault.0),
+        }
+    }
+}
+
+/// Whether a read of n bytes at this count passes a stop.
+pub fn passes(stop: Option<usize>, at: usize, n: usize) -> bool
+    ensures { result ≡ past stop (at + n) }
+{
+    stop.is_some_and(|stop| stop.checked_sub(at).is_none_or(|left| n > left))
 }
 
 /// Where bytes lie that were taken.

@@ -1,7 +1,5 @@
-ghost use Rattle.std.specs.Prelude.{◌≡◌, ◌+◌, ◌<◌, ◌≤◌, true, false, length, nat_lt, slice_index};
+ghost use Rattle.std.specs.Prelude.{◌≡◌, ◌+◌, ◌<◌, ◌≤◌, true, false, length};
 ghost use Rattle.source.specs.Bytes.{Octets};
-ghost use Rattle.read.specs.Reader.{Spent, advanced};
-ghost use Rattle.read.specs.Sound.{slice_view, slice_sound};
 
 use super::{DeRead, Fault, Taken};
 
@@ -17,11 +15,12 @@ pub struct SliceRead<'a> {
 }
 
 impl<'a> SliceRead<'a> {
+    ghost use Rattle.read.specs.Reader.{advanced};
+    ghost use Rattle.read.specs.Slice.{slice_view};
+
     pub fn new(slice: &'a [u8]) -> SliceRead<'a>
         ensures { (result.slice.now ≡ slice.now) × (result.index ≡ 0) × (result.peeked ≡ false) }
     {
-        // A slice that is handed on is known to hold bytes, each below 256.
-        let _ = slice.first();
         SliceRead {
             slice,
             index: 0,
@@ -29,27 +28,22 @@ impl<'a> SliceRead<'a> {
         }
     }
 
-    // Whether fewer than n bytes are to come. A slice that is too short loses none of them.
-    fn lacks(&self, n: usize) -> bool
-        ensures value { result ≡ nat_lt (length (slice_view self.now.slice.now self.now.index self.now.peeked).coming) n }
-        ensures there { result ≡ false → self.now.index + n ≤ length self.now.slice.now }
-        ensures spent { Spent (slice_view self.now.slice.now self.now.index self.now.peeked) (slice_view self.now.slice.now self.now.index self.now.peeked) }
+    fn coming(&self) -> &[u8]
+        ensures { result.now ≡ (slice_view self.now).coming }
     {
-        n > self.slice.len() - self.index
+        &self.slice[self.index..]
     }
 
-    // The next byte, which is there.
-    fn first(&self) -> u8
-        requires { self.now.index < length self.now.slice.now }
-        ensures { result ≡ slice_index (slice_view self.now.slice.now self.now.index self.now.peeked).coming 0 }
+    fn taken(&self) -> &[u8]
+        ensures { result.now ≡ (slice_view self.now).kept }
     {
-        self.slice[self.index]
+        &self.slice[..self.index]
     }
 
     // Takes n bytes, which are there.
     fn advance(&mut self, n: usize)
-        requires { self.old.index + n ≤ length self.old.slice.now }
-        ensures { slice_view self.new.slice.now self.new.index self.new.peeked ≡ advanced true n (slice_view self.old.slice.now self.old.index self.old.peeked) }
+        requires { n ≤ length (slice_view self.old).coming }
+        ensures { slice_view self.new ≡ advanced true n (slice_view self.old) }
     {
         if n > 0 {
             self.index += n;
@@ -59,27 +53,24 @@ impl<'a> SliceRead<'a> {
 }
 
 impl<'a> DeRead for SliceRead<'a> {
-    ghost view = { λ s. slice_view s.slice.now s.index s.peeked };
+    ghost use Rattle.read.specs.Slice.{slice_view, slice_sound};
+
+    ghost view = { slice_view };
 
     ghost lends = { true };
 
-    ghost sound = { λ s. slice_sound s.slice.now s.index s.peeked s.octets s.within s.held };
+    ghost sound = { slice_sound };
 
     fn next(&mut self) -> Result<u8, Fault> {
-        if self.lacks(1) {
-            return Err(Fault::Short);
-        }
-        let b = self.first();
+        let b = *self.coming().first().ok_or(Fault::Short)?;
         self.advance(1);
         Ok(b)
     }
 
     fn peek(&mut self) -> Result<u8, Fault> {
-        if self.lacks(1) {
-            return Err(Fault::Short);
-        }
+        let b = *self.coming().first().ok_or(Fault::Short)?;
         self.peeked = true;
-        Ok(self.first())
+        Ok(b)
     }
 
     fn read_count(&self) -> usize {
@@ -93,7 +84,7 @@ impl<'a> DeRead for SliceRead<'a> {
     }
 
     fn next_bytes(&mut self, n: usize, buf: &mut [u8]) -> Result<Taken, Fault> {
-        if self.lacks(n) {
+        if n > self.coming().len() {
             return Err(Fault::Short);
         }
         let place = self.index;
@@ -102,18 +93,11 @@ impl<'a> DeRead for SliceRead<'a> {
     }
 
     fn kept(&self, place: usize) -> Option<u8> {
-        if place >= self.index {
-            return None;
-        }
-        Some(self.slice[place])
+        self.taken().get(place).copied()
     }
 
     fn kept_part(&self, place: usize, n: usize) -> Option<&[u8]> {
-        if place <= self.index && n <= self.index - place {
-            Some(&self.slice[place..place + n])
-        } else {
-            None
-        }
+        self.taken().get(place..)?.get(..n)
     }
 
     fn lends(&self) -> bool {

@@ -1,12 +1,11 @@
 -- What one read tells, and what a loop that fills a buffer keeps.
-use Rattle.std.proofs.Common.{◌≡◌, ℕ, ◌+◌, ◌-◌, ◌<◌, ◌≤◌, min, List, ◌++◌, length, take, drop, Ok, Err, Result, sym, refl, ap, ◌∙◌, subst, append_assoc, append-nil, arith, length-drop, length-take, drop-drop, take-add}
+use Rattle.std.proofs.Common.{◌≡◌, ℕ, ◌+◌, ◌-◌, ◌<◌, ◌≤◌, List, ◌++◌, length, take, drop, None, Ok, Option, sym, refl, ap, ◌∙◌, subst, append_assoc, append-nil, arith, length-drop, length-take, drop-drop, take-add}
 use borrow.Rule.Slice.PartMut.{put_mid}
-use Rattle.std.proofs.lemmas.Bool.{lt-leb, le-leb, ne_eqb}
+use Rattle.std.proofs.lemmas.Bool.{ne_eqb}
 use Rattle.std.proofs.lemmas.Bool.Decides.{nat_tests}
-use Rattle.std.proofs.lemmas.List.{take_at, drop_at, take_all, drop_all, take_rest}
-use Rattle.source.specs.Bytes.{Octets}
-use Rattle.source.specs.Feed.{Feed, after, fronted, told, Portion, Read, Fill, portioned}
-use Rattle.source.specs.Sound.{octets_drop}
+use Rattle.std.proofs.lemmas.List.{take_at, drop_at, drop_all, take_rest, drop-append-le, take-append-drop}
+use Rattle.source.specs.declared.SourceFault.{SourceFault}
+use Rattle.source.specs.Feed.{Feed, giving, after, fronted, Read}
 
 -- a portion of n bytes came
 pub record Came (f : Feed) (buf : List ℕ) (n : ℕ) (g : Feed) (buf' : List ℕ) : Type 0 where
@@ -16,31 +15,9 @@ pub record Came (f : Feed) (buf : List ℕ) (n : ℕ) (g : Feed) (buf' : List �
   pub left : g ≡ after n f
   pub put : buf' ≡ fronted (take n f.bytes) buf
 
--- none are to come
-pub record Ended (f : Feed) (buf : List ℕ) (r : Result ℕ ℕ) (g : Feed) (buf' : List ℕ) : Type 0 where
-  pub none : length f.bytes ≡ 0
-  pub tells_it : r ≡ told f.ending
-  pub left : g ≡ f
-  pub stays : buf' ≡ buf
-
 module _ (f g : Feed) (buf buf' : List ℕ) where
   pub came : (n : ℕ) → Read f buf (Ok n) g buf' → 0 < length buf → (n ≡ 0 → ⊥) → Came f buf n g buf'
   came n h more some = record { some = grind (arith, nat_tests); room = grind (arith, nat_tests); there = grind (arith, nat_tests); left = grind (arith, nat_tests); put = grind (arith, nat_tests) }
-
-  pub ended_clean : (n : ℕ) → Read f buf (Ok n) g buf' → 0 < length buf → n ≡ 0 → Ended f buf (Ok 0) g buf'
-  ended_clean n h more e = record { none = grind (arith, nat_tests); tells_it = grind (arith, nat_tests); left = grind (arith, nat_tests); stays = grind (arith, nat_tests) }
-
-  pub ended_by : (e : ℕ) → Read f buf (Err e) g buf' → Ended f buf (Err e) g buf'
-  ended_by e h = record { none = grind (arith, nat_tests); tells_it = grind (arith, nat_tests); left = grind (arith, nat_tests); stays = grind (arith, nat_tests) }
-
-  pub gives : 0 < length buf → 0 < length f.bytes → {r : Result ℕ ℕ} → Portion f buf r g buf' → Read f buf r g buf'
-  gives a b h = rw (ne_eqb (length buf) 0 (λ e. omega arith), ne_eqb (length f.bytes) 0 (λ e. omega arith)) h
-
-pub told_clean : (e : ℕ) → Ok 0 ≡ told e → e ≡ 0
-told_clean e h = grind (arith, nat_tests)
-
-pub told_code : (c e : ℕ) → Err c ≡ told e → e ≡ c
-told_code c e h = grind (arith, nat_tests)
 
 -- the first `at` bytes of the buffer have been filled; `old` is the buffer at the start
 pub record Filling (f : Feed) (old : List ℕ) (at : ℕ) (now_left : Feed) (buf : List ℕ) : Type 0 where
@@ -92,55 +69,21 @@ module _ (f f1 : Feed) (old buf : List ℕ) (at : ℕ) (i : Filling f old at f1 
             ∙ ap (λ l. take (at + n) f.bytes ++ l) (drop-drop n at old);
       }
 
-  pub filled : length buf ≤ at → length buf ≡ length old → Fill f old (Ok tt) f1 buf
-  filled all long =
-      let within = i.within in
-      let enough = i.enough in
-      let here : at ≡ length old = omega arith in
-      let whole : length old ≤ length f.bytes = omega arith in
-      let past : length old ≤ at = omega arith in
-      rw (le-leb (length old) (length f.bytes) whole) (
-        refl,
-        i.left ∙ ap (λ n. after n f) here,
-        i.front ∙ ap (λ l. take at f.bytes ++ l) (drop_all at old past) ∙ append-nil (take at f.bytes) ∙ ap (λ n. take n f.bytes) here,
-      )
-
-  pub ran_out : at < length buf → length buf ≡ length old → (r : Result ℕ ℕ) (g : Feed) (part : List ℕ) (e : ℕ) → e ≡ f.ending → Ended f1 (take (length buf - at) (drop at buf)) r g part →
-      Fill f old (Err e) g (put_mid at (length buf - at) buf part)
-  ran_out more long r g part e told_by h =
-      let none : length (drop at f.bytes) ≡ 0 = ap (λ x. length x.bytes) (sym i.left) ∙ h.none in
-      let enough = i.enough in
-      let over : length f.bytes - at ≡ 0 = sym (length-drop at f.bytes) ∙ none in
-      let here : at ≡ length f.bytes = omega arith in
-      let short : length f.bytes < length old = omega arith in
-      let whole : length f.bytes ≤ at = omega arith in
-      rw (lt-leb (length old) (length f.bytes) short) (
-        ap Err told_by,
-        h.left ∙ i.left ∙ ap (λ n. after n f) here,
-        back part ∙ ap (λ l. take at f.bytes ++ l) (h.stays ∙ wanted) ∙ ap (λ l. l ++ drop at old) (take_all at f.bytes whole) ∙ ap (λ n. f.bytes ++ drop n old) here,
-      )
-
-  pub same_ending : f1.ending ≡ f.ending
-  same_ending = ap (λ x. x.ending) i.left
-
--- what is left of a slice whose first n bytes were given
-pub rest_octets : (xs : List ℕ) (n : ℕ) → Octets xs → Octets (take (length xs - n) (drop n xs))
-rest_octets xs n h = subst Octets (sym (take_rest xs n)) (octets_drop n xs h)
-
--- a slice's first n bytes are given
-pub given : (xs buf buf' : List ℕ) (e n : ℕ) → 1 ≤ n → n ≤ length buf → n ≤ length xs → buf' ≡ take n xs ++ drop n buf →
-    Read (record { bytes = xs; ending = e }) buf (Ok n) (record { bytes = take (length xs - n) (drop n xs); ending = e }) buf'
-given xs buf buf' e n some room there put =
-    let long : length (take n xs) ≡ n = simp length-take (omega arith) in
-    gives _ _ _ _ (omega arith) (omega arith) (record {
+-- A read into a buffer's front of m bytes from a slice, whatever ending comes behind the slice.
+pub given : (e : Option SourceFault) (xs ys buf part : List ℕ) (m n : ℕ) → 0 < m → m ≤ length buf → (n ≡ 0 → ⊥) → Read (giving xs None) (take m buf) (Ok n) (giving ys None) part →
+    Read (giving xs e) buf (Ok n) (giving ys e) (part ++ drop m buf)
+given e xs ys buf part m n more fits some h =
+    let long : length (take m buf) ≡ m = simp length-take (omega arith) in
+    let c = came (giving xs None) (giving ys None) (take m buf) part n h (omega (arith, long)) some in
+    let room : n ≤ length (take m buf) = c.room in
+    let there : n ≤ length xs = c.there in
+    let few : length (take n xs) ≡ n = simp length-take (omega arith) in
+    rw (ne_eqb (length buf) 0 (λ e. omega arith), ne_eqb (length xs) 0 (λ e. omega arith)) (record {
       size = n;
       gives = refl;
-      some = some;
-      room = room;
+      some = c.some;
+      room = omega (arith, long);
       there = there;
-      left = ap (λ l. record { bytes = l; ending = e }) (take_rest xs n);
-      put = put ∙ ap (λ k. take n xs ++ drop k buf) (sym long);
+      left = ap (λ f. giving f.bytes e) c.left;
+      put = rw (c.put, few, append_assoc, ← drop-append-le n (take m buf) (drop m buf) room, take-append-drop m buf);
     })
-
-pub some_portioned : (most : ℕ) (f : Feed) (room n : ℕ) → 0 < room → 0 < length f.bytes → n ≡ min most (min room (length f.bytes)) → Ok n ≡ portioned most f room
-some_portioned most f room n a b e = grind (arith, nat_tests)

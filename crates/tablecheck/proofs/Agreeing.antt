@@ -3,8 +3,11 @@ use Rattle.std.proofs.Common.{◌≡◌, ℕ, ◌+◌, ◌-◌, ◌≤◌, Bool,
 use Rattle.std.proofs.lemmas.Bool.{le-ltb}
 use Rattle.std.proofs.lemmas.List.{take_rest}
 use Rattle.read.specs.declared.Fault.TheVariants as fault
-use Rattle.source.specs.Feed.{chained}
-use Rattle.read.specs.Sound.{slice_view, io_view}
+use Rattle.source.specs.declared.SourceFault.{SourceFault}
+use Rattle.source.specs.Feed.{giving, chained}
+use Rattle.read.specs.declared.slice.SliceRead.{SliceRead}
+use Rattle.read.specs.Slice.{slice_view}
+use Rattle.read.specs.Sound.{io_view}
 use Rattle.read.specs.Reader.{View, past, shortfall, held, advanced, discarded}
 use Rattle.format.specs.declared.width.Width.{Width}
 use Rattle.format.specs.declared.width.Width.TheVariants.{W8, W16, W32, W64}
@@ -26,7 +29,7 @@ record Alike (most : ℕ) (v w : View) : Type 0 where
   stops : w.stop ≡ Some 1152921504606846992
   few : w.count ≤ most
 
-abbrev questions : ℕ → List ℕ → ℕ → Option ReadError
+abbrev questions : ℕ → List ℕ → Option SourceFault → Option ReadError
 questions n xs e = judged false (cond (ltb (length xs) n) (Some (shortfall e)) None)
 
 asked_alike : (most n : ℕ) (v w : View) → Alike most v w → most + n ≤ 1152921504606846992 → asked None v None n ≡ asked None w None n
@@ -175,12 +178,12 @@ header_same v w a =
     (λ caps s t d. length_same 6 (omega arith) caps s t d))
 
 -- a file over a slice, and in a chain of two parts, as the readers have them when they are new
-module _ (xs s a b : List ℕ) (i k ea eb : ℕ) (p : Bool) (o : Option ℕ) where
-  pub agree : s ≡ xs → i ≡ 0 → p ≡ false → a ++ b ≡ xs → ea ≡ 0 → eb ≡ 0 → o ≡ None → k ≡ 0 → (r q : Result Header Refusal) (v w : View) →
-      TellsAt (header_read true (slice_view s i p)) r v →
-      TellsAt (header_read false (io_view (chained (record { bytes = a; ending = ea }) (record { bytes = b; ending = eb })) o k)) q w → r ≡ q
+module _ (xs a b : List ℕ) (s : SliceRead) (k : ℕ) (ea eb : Option SourceFault) (o : Option ℕ) where
+  pub agree : s.slice.now ≡ xs → s.index ≡ 0 → s.peeked ≡ false → a ++ b ≡ xs → ea ≡ None → eb ≡ None → o ≡ None → k ≡ 0 → (r q : Result Header Refusal) (v w : View) →
+      TellsAt (header_read true (slice_view s)) r v →
+      TellsAt (header_read false (io_view (chained (giving a ea) (giving b eb)) o k)) q w → r ≡ q
   agree is_s is_i is_p parts clean_a clean_b is_o is_k r q v w h t =
-      told_same 15 (header_read true (slice_view s i p)) (header_read false (io_view (chained (record { bytes = a; ending = ea }) (record { bytes = b; ending = eb })) o k)) r q v w (header_same _ _ alike) h t
+      told_same 15 (header_read true (slice_view s)) (header_read false (io_view (chained (giving a ea) (giving b eb)) o k)) r q v w (header_same _ _ alike) h t
     where
-      alike : Alike 0 (slice_view s i p) (io_view (chained (record { bytes = a; ending = ea }) (record { bytes = b; ending = eb })) o k)
+      alike : Alike 0 (slice_view s) (io_view (chained (giving a ea) (giving b eb)) o k)
       alike = rw (is_s, is_i, is_p, clean_a, clean_b, is_o, is_k) (record { coming = sym parts; ending = refl; count = refl; peeked = refl; unstopped = refl; stops = refl; few = omega arith })

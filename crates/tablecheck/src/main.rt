@@ -41,8 +41,8 @@ impl Findings {
     {
         let size = bytes.len();
         let (front, back) = bytes.split_at(size / 2);
-        let first = PieceSource::new(front, 7, 0);
-        let second = PieceSource::new(back, 64, 0);
+        let first = PieceSource::new(front, 7, None);
+        let second = PieceSource::new(back, 64, None);
         let from_slice = header_of(SliceRead::new(bytes));
         let from_pieces = header_of(IoRead::new(Chain::new(first, second)));
         Findings {
