@@ -1,5 +1,5 @@
 -- A text that comes in pieces: what may come next.
-use Rattle.std.specs.Prelude.{ℕ, Bool, true, false, cond, List, [], ◌∷◌}
+use Rattle.std.specs.Prelude.{ℕ, Bool, true, false, cond, List, fold}
 use Rattle.utf8.specs.declared.pieces.Awaited.{Awaited}
 use Rattle.utf8.specs.declared.pieces.Awaited.TheVariants as awaited
 use Rattle.utf8.specs.Utf8.{Await, character, broken, range, within, first, further}
@@ -17,8 +17,7 @@ turned broken b = broken
 
 -- all these bytes have come
 abbrev pub all_turned : Await → List ℕ → Await
-all_turned w [] = w
-all_turned w (b ∷ bs) = all_turned (turned w b) bs
+all_turned w bs = fold turned w bs
 
 abbrev pub complete : Await → Bool
 complete character = true

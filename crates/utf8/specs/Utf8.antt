@@ -1,5 +1,5 @@
 -- Well-formed UTF-8, as Table 3-7 of the Unicode Standard has it.
-use Rattle.std.specs.Prelude.{ℕ, zero, suc, Bool, true, false, cond, ◌&&◌, List, [], ◌∷◌, nat_le}
+use Rattle.std.specs.Prelude.{ℕ, zero, suc, Bool, true, false, cond, ◌&&◌, List, [], ◌∷◌, nat_le, Option, Some, None}
 
 abbrev pub within : ℕ → ℕ → ℕ → Bool
 within lo hi b = nat_le lo b && nat_le b hi
@@ -38,13 +38,13 @@ utf8_after broken (b ∷ bs) = false
 unfoldable pub utf8 : List ℕ → Bool
 utf8 bs = utf8_after character bs
 
--- how many bytes a character has that begins with this one, 0 where none does
-abbrev pub size : Await → ℕ
-size broken = 0
-size character = 1
-size (range lo hi k) = suc (suc k)
+-- how many bytes a character has that begins with this one, none where no character does
+abbrev pub size : Await → Option ℕ
+size broken = None
+size character = Some 1
+size (range lo hi k) = Some (suc (suc k))
 
-abbrev pub announced : ℕ → ℕ
+abbrev pub announced : ℕ → Option ℕ
 announced b = size (first b)
 
 -- whether this byte may come next
