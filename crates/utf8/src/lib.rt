@@ -57,6 +57,7 @@ fn may_follow(lead: u8, byte: u8) -> bool
 }
 
 // Whether these bytes complete the character that begins with `lead`, where they are as many as it announces.
+#[tactic(auto, using(crate::proofs::Characters::alone, crate::proofs::Characters::followed))]
 fn completes(lead: u8, others: &[u8]) -> bool
     requires { announced lead ≡ Some (length others.now + 1) }
     ensures { (rest : List ℕ) → utf8_after (first lead) (others.now ++ rest) ≡ (result && utf8 rest) }
