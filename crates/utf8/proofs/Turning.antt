@@ -1,5 +1,5 @@
 -- A text in pieces is judged as the whole text is.
-use Rattle.std.proofs.Common.{◌≡◌, ℕ, Bool, true, false, cond, ◌&&◌, List, [], ◌∷◌, ◌++◌, sym, refl, ap}
+use Rattle.std.proofs.Common.{◌≡◌, ℕ, Bool, true, false, if◌then◌else◌, ◌&&◌, List, [], ◌∷◌, ◌++◌, sym, refl, ap}
 use Rattle.std.proofs.lemmas.List.Folds.{fold_stays}
 use Rattle.std.proofs.lemmas.List.Sums.{fold-append}
 use Rattle.utf8.specs.Utf8.{Await, character, broken, range, within, first, further, utf8_after, utf8}
@@ -19,7 +19,7 @@ judged broken (b ∷ bs) = sym (stays_broken bs)
 judged (range lo hi k) [] = refl
 judged (range lo hi k) (b ∷ bs) = go (within lo hi b) (judged (further k) bs)
   where
-    go : (t : Bool) → utf8_after (further k) bs ≡ complete (all_turned (further k) bs) → (t && utf8_after (further k) bs) ≡ complete (all_turned (cond t (further k) broken) bs)
+    go : (t : Bool) → utf8_after (further k) bs ≡ complete (all_turned (further k) bs) → (t && utf8_after (further k) bs) ≡ complete (all_turned (if t then further k else broken) bs)
     go true h = h
     go false h = sym (stays_broken bs)
 

@@ -1,5 +1,5 @@
 -- A text that comes in pieces: what may come next.
-use Rattle.std.specs.Prelude.{ℕ, Bool, true, false, cond, List, fold}
+use Rattle.std.specs.Prelude.{ℕ, Bool, true, false, if◌then◌else◌, List, fold}
 use Rattle.utf8.specs.declared.pieces.Awaited.{Awaited}
 use Rattle.utf8.specs.declared.pieces.Awaited.TheVariants as awaited
 use Rattle.utf8.specs.Utf8.{Await, character, broken, range, within, first, further}
@@ -12,7 +12,7 @@ await awaited.Nothing = broken
 -- one byte has come
 abbrev pub turned : Await → ℕ → Await
 turned character b = first b
-turned (range lo hi k) b = cond (within lo hi b) (further k) broken
+turned (range lo hi k) b = if within lo hi b then further k else broken
 turned broken b = broken
 
 -- all these bytes have come

@@ -31,13 +31,13 @@ pub fn width_of(byte: u8) -> Option<usize>
 }
 
 fn continues(byte: u8) -> bool
-    ensures { result ≡ within 128 191 byte }
+    ensures { result ≡ within 0x80 0xbf byte }
 {
     matches!(byte, 0x80..=0xbf)
 }
 
 fn all_continue(bytes: &[u8]) -> bool
-    ensures { result ≡ list_all (within 128 191) bytes.now }
+    ensures { result ≡ list_all (within 0x80 0xbf) bytes.now }
 {
     bytes.iter().all(|byte| continues(*byte))
 }

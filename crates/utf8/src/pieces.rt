@@ -1,6 +1,6 @@
 //! The same check over a text that comes in pieces.
-ghost use Rattle.std.specs.Prelude.{◌≡◌, cond};
-ghost use Rattle.utf8.specs.Utf8.{first, further, within};
+ghost use Rattle.std.specs.Prelude.{◌≡◌};
+ghost use Rattle.utf8.specs.Utf8.{first, further};
 ghost use Rattle.utf8.specs.Pieces.{await, turned, all_turned, complete};
 
 /// What may come next in a text of which a part was checked.

@@ -8,6 +8,9 @@ use std::fmt;
 use std::str::from_utf8;
 use utf8::is_utf8;
 
+// Bytes at the edges of the ranges in which a second or later byte may lie.
+const EDGES: [u8; 10] = [0x00, 0x7f, 0x80, 0x8f, 0x90, 0x9f, 0xa0, 0xbf, 0xc0, 0xff];
+
 /// How many sequences were tried, how many are well formed, and on how many the two checks differ.
 #[derive(Clone, Copy, Default)]
 struct Tally {
@@ -31,7 +34,11 @@ impl Tally {
 
 impl fmt::Display for Tally {
     fn fmt<W: fmt::Write>(&self, f: &mut fmt::Formatter<W>) -> fmt::Result {
-        write!(f, "{} tried, {} well formed, {} differ", self.tried, self.formed, self.differ)
+        write!(
+            f,
+            "{} tried, {} well formed, {} differ",
+            self.tried, self.formed, self.differ
+        )
     }
 }
 
@@ -65,9 +72,6 @@ impl Tallies {
         }
     }
 }
-
-// Bytes at the edges of the ranges in which a second or later byte may lie.
-const EDGES: [u8; 10] = [0x00, 0x7f, 0x80, 0x8f, 0x90, 0x9f, 0xa0, 0xbf, 0xc0, 0xff];
 
 fn compared() -> Tallies {
     let mut tallies = Tallies::default();
