@@ -56,7 +56,7 @@ fn may_follow(lead: u8, byte: u8) -> bool
     }
 }
 
-// Whether these bytes complete the character that begins with `lead`, where they are as many as it announces.
+// Whether these bytes, as many as `lead` announces behind it, complete the character.
 #[tactic(auto, using(crate::proofs::Characters::alone, crate::proofs::Characters::followed))]
 fn completes(lead: u8, others: &[u8]) -> bool
     requires { announced lead ≡ Some (length others.now + 1) }
@@ -68,10 +68,14 @@ fn completes(lead: u8, others: &[u8]) -> bool
     }
 }
 
-// What stands behind the character that begins with `lead` and goes on in `tail`; none where they make no character.
+// What stands behind the character that begins with `lead` and goes on in `tail`;
+// none where they make no character.
 fn behind_character(lead: u8, tail: &[u8]) -> Option<&[u8]>
-    ensures formed { MatchOption result (utf8_after (first lead) tail.now ≡ false) (λ rest. utf8_after (first lead) tail.now ≡ utf8 rest.now) }
-    ensures suffix { IfSome result (λ rest. (length rest.now ≤ length tail.now) × (rest.now ≡ drop (length tail.now - length rest.now) tail.now)) }
+    ensures formed { MatchOption result
+        (utf8_after (first lead) tail.now ≡ false)
+        (λ rest. utf8_after (first lead) tail.now ≡ utf8 rest.now) }
+    ensures suffix { IfSome result (λ rest.
+        (length rest.now ≤ length tail.now) × (rest.now ≡ drop (length tail.now - length rest.now) tail.now)) }
 {
     let width = width_of(lead)?;
     let (others, rest) = tail.split_at_checked(width - 1)?;
