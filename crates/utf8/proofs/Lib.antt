@@ -1,3 +1,3 @@
-pub mod Every
+pub mod Widths
 pub mod Characters
 pub mod Turning

@@ -1,5 +1,5 @@
 -- Well-formed UTF-8, as Table 3-7 of the Unicode Standard has it.
-use Rattle.std.specs.Prelude.{ℕ, zero, suc, Bool, true, false, cond, ◌&&◌, List, [], ◌∷◌, nat_le}
+use Rattle.std.specs.Prelude.{ℕ, zero, suc, Bool, true, false, if◌then◌else◌, ◌&&◌, List, [], ◌∷◌, nat_le, Option, Some, None}
 
 abbrev pub within : ℕ → ℕ → ℕ → Bool
 within lo hi b = nat_le lo b && nat_le b hi
@@ -12,16 +12,16 @@ pub data Await : Type 0 where
 -- the rows of the table, by the first byte
 abbrev pub first : ℕ → Await
 first b =
-    cond (within 0x00 0x7f b) character
-    (cond (within 0xc2 0xdf b) (range 0x80 0xbf 0)
-    (cond (within 0xe0 0xe0 b) (range 0xa0 0xbf 1)
-    (cond (within 0xe1 0xec b) (range 0x80 0xbf 1)
-    (cond (within 0xed 0xed b) (range 0x80 0x9f 1)
-    (cond (within 0xee 0xef b) (range 0x80 0xbf 1)
-    (cond (within 0xf0 0xf0 b) (range 0x90 0xbf 2)
-    (cond (within 0xf1 0xf3 b) (range 0x80 0xbf 2)
-    (cond (within 0xf4 0xf4 b) (range 0x80 0x8f 2)
-    broken))))))))
+    if within 0x00 0x7f b then character
+    else if within 0xc2 0xdf b then range 0x80 0xbf 0
+    else if within 0xe0 0xe0 b then range 0xa0 0xbf 1
+    else if within 0xe1 0xec b then range 0x80 0xbf 1
+    else if within 0xed 0xed b then range 0x80 0x9f 1
+    else if within 0xee 0xef b then range 0x80 0xbf 1
+    else if within 0xf0 0xf0 b then range 0x90 0xbf 2
+    else if within 0xf1 0xf3 b then range 0x80 0xbf 2
+    else if within 0xf4 0xf4 b then range 0x80 0x8f 2
+    else broken
 
 abbrev pub further : ℕ → Await
 further zero = character
@@ -38,13 +38,13 @@ utf8_after broken (b ∷ bs) = false
 unfoldable pub utf8 : List ℕ → Bool
 utf8 bs = utf8_after character bs
 
--- how many bytes a character has that begins with this one, 0 where none does
-abbrev pub size : Await → ℕ
-size broken = 0
-size character = 1
-size (range lo hi k) = suc (suc k)
+-- how many bytes a character has that begins with this one, none where no character does
+abbrev pub size : Await → Option ℕ
+size broken = None
+size character = Some 1
+size (range lo hi k) = Some (suc (suc k))
 
-abbrev pub announced : ℕ → ℕ
+abbrev pub announced : ℕ → Option ℕ
 announced b = size (first b)
 
 -- whether this byte may come next

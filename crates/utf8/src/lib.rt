@@ -1,12 +1,13 @@
 //! Well-formed UTF-8, by Table 3-7 of the Unicode Standard.
 #![tactic(auto)]
 
-ghost use Rattle.std.specs.Prelude.{◌≡◌, ◌<◌, ◌≤◌, false, length, drop, if◌then◌else◌, nat_eq};
-ghost use Rattle.utf8.specs.Utf8.{utf8, within, first, announced, allows};
+ghost use Rattle.std.specs.Prelude.{◌≡◌, ℕ, ◌+◌, ◌-◌, ◌<◌, ◌≤◌, false, ◌&&◌, List, ◌++◌, length, drop, IfSome, IsSomeAnd, MatchOption};
+ghost use Rattle.std.specs.List.{list_all};
+ghost use Rattle.utf8.specs.Utf8.{utf8, utf8_after, within, first, announced, allows};
 
 pub mod pieces;
 
-// How many bytes a character has, by its first byte: 0 where none begins.
+// How many bytes a character has, by its first byte: 0 where none begins, so that an entry is one byte.
 const WIDTH: [u8; 256] = [
     1, 1, 1, 1, 1, 1, 1, 1, 1, 1, 1, 1, 1, 1, 1, 1, 1, 1, 1, 1, 1, 1, 1, 1, 1, 1, 1, 1, 1, 1, 1, 1,
     1, 1, 1, 1, 1, 1, 1, 1, 1, 1, 1, 1, 1, 1, 1, 1, 1, 1, 1, 1, 1, 1, 1, 1, 1, 1, 1, 1, 1, 1, 1, 1,
@@ -18,65 +19,80 @@ const WIDTH: [u8; 256] = [
     3, 3, 3, 3, 3, 3, 3, 3, 3, 3, 3, 3, 3, 3, 3, 3, 4, 4, 4, 4, 4, 0, 0, 0, 0, 0, 0, 0, 0, 0, 0, 0,
 ];
 
-/// How many bytes a character has that begins with this byte, 0 where none does.
-pub fn width_of(byte: u8) -> usize
+/// How many bytes a character has that begins with this byte; none where no character does.
+#[tactic(auto, using(crate::proofs::Widths::no_width, crate::proofs::Widths::a_width))]
+pub fn width_of(byte: u8) -> Option<usize>
     ensures { result ≡ announced byte }
 {
-    WIDTH[byte as usize] as usize
+    match WIDTH[usize::from(byte)] {
+        0 => None,
+        width => Some(usize::from(width)),
+    }
 }
 
 fn continues(byte: u8) -> bool
-    ensures { result ≡ within 128 191 byte }
+    ensures { result ≡ within 0x80 0xbf byte }
 {
-    byte >= 0x80 && byte <= 0xbf
+    matches!(byte, 0x80..=0xbf)
+}
+
+fn all_continue(bytes: &[u8]) -> bool
+    ensures { result ≡ list_all (within 0x80 0xbf) bytes.now }
+{
+    bytes.iter().all(|byte| continues(*byte))
 }
 
 // Whether this byte may stand behind a first byte that announces more than one.
 fn may_follow(lead: u8, byte: u8) -> bool
-    requires { 1 < announced lead }
+    requires { IsSomeAnd (announced lead) (λ n. 1 < n) }
     ensures { result ≡ allows (first lead) byte }
 {
     match lead {
-        0xe0 => byte >= 0xa0 && byte <= 0xbf,
-        0xed => byte >= 0x80 && byte <= 0x9f,
-        0xf0 => byte >= 0x90 && byte <= 0xbf,
-        0xf4 => byte >= 0x80 && byte <= 0x8f,
+        0xe0 => matches!(byte, 0xa0..=0xbf),
+        0xed => matches!(byte, 0x80..=0x9f),
+        0xf0 => matches!(byte, 0x90..=0xbf),
+        0xf4 => matches!(byte, 0x80..=0x8f),
         _ => continues(byte),
     }
 }
 
-// How many bytes the first character has, 0 where none stands there.
-fn char_len(s: &[u8]) -> usize
-    requires { 0 < length s.now }
-    ensures within { result ≤ length s.now }
-    ensures steps { utf8 s.now ≡ (if nat_eq result 0 then false else utf8 (drop result s.now)) }
+// Whether these bytes, as many as `lead` announces behind it, complete the character.
+#[tactic(auto, using(crate::proofs::Characters::alone, crate::proofs::Characters::followed))]
+fn completes(lead: u8, others: &[u8]) -> bool
+    requires { announced lead ≡ Some (length others.now + 1) }
+    ensures { (rest : List ℕ) → utf8_after (first lead) (others.now ++ rest) ≡ (result && utf8 rest) }
 {
-    let n = width_of(s[0]);
-    if n > s.len() {
-        return 0;
+    match others {
+        [] => true,
+        [second, later @ ..] => may_follow(lead, *second) && all_continue(later),
     }
-    if n > 1 && !may_follow(s[0], s[1]) {
-        return 0;
-    }
-    for i in 2..n {
-        if !continues(s[i]) {
-            return 0;
-        }
-    }
-    n
+}
+
+// What stands behind the character that begins with `lead` and goes on in `tail`;
+// none where they make no character.
+fn behind_character(lead: u8, tail: &[u8]) -> Option<&[u8]>
+    ensures formed { MatchOption result
+        (utf8_after (first lead) tail.now ≡ false)
+        (λ rest. utf8_after (first lead) tail.now ≡ utf8 rest.now) }
+    ensures suffix { IfSome result (λ rest.
+        (length rest.now ≤ length tail.now) × (rest.now ≡ drop (length tail.now - length rest.now) tail.now)) }
+{
+    let width = width_of(lead)?;
+    let (others, rest) = tail.split_at_checked(width - 1)?;
+    completes(lead, others).then_some(rest)
 }
 
 /// Whether the bytes are well-formed UTF-8.
+#[tactic(auto, unfolding(crate::specs::Utf8::utf8))]
 pub fn is_utf8(s: &[u8]) -> bool
     ensures { result ≡ utf8 s.now }
 {
-    let mut at = 0;
-    while at < s.len() {
-        let n = char_len(&s[at..]);
-        if n == 0 {
+    let mut rest = s;
+    while let Some((lead, tail)) = rest.split_first() {
+        let Some(behind) = behind_character(*lead, tail) else {
             return false;
-        }
-        at += n;
+        };
+        rest = behind;
     }
     true
 }

@@ -1,15 +1,15 @@
 //! The same check over a text that comes in pieces.
-ghost use Rattle.std.specs.Prelude.{◌≡◌, cond};
-ghost use Rattle.utf8.specs.Utf8.{first, further, within};
+ghost use Rattle.std.specs.Prelude.{◌≡◌};
+ghost use Rattle.utf8.specs.Utf8.{first, further};
 ghost use Rattle.utf8.specs.Pieces.{await, turned, all_turned, complete};
 
 /// What may come next in a text of which a part was checked.
-#[derive(Clone, Copy)]
+#[derive(Clone, Copy, PartialEq, Eq, Debug)]
 pub enum Awaited {
     /// A character, or the end.
     Character,
-    /// A byte from the first of these to the second, and then so many from 80 to bf.
-    Range(u8, u8, u8),
+    /// A byte from `low` to `high`, and then `more` from 80 to bf.
+    Range { low: u8, high: u8, more: u8 },
     /// Nothing: what came is not UTF-8.
     Nothing,
 }
@@ -18,27 +18,31 @@ pub enum Awaited {
 fn behind_first(byte: u8) -> Awaited
     ensures { await result ≡ first byte }
 {
-    match byte {
-        0x00..=0x7f => Awaited::Character,
-        0xc2..=0xdf => Awaited::Range(0x80, 0xbf, 0),
-        0xe0 => Awaited::Range(0xa0, 0xbf, 1),
-        0xed => Awaited::Range(0x80, 0x9f, 1),
-        0xe1..=0xef => Awaited::Range(0x80, 0xbf, 1),
-        0xf0 => Awaited::Range(0x90, 0xbf, 2),
-        0xf1..=0xf3 => Awaited::Range(0x80, 0xbf, 2),
-        0xf4 => Awaited::Range(0x80, 0x8f, 2),
-        _ => Awaited::Nothing,
-    }
+    let (low, high, more) = match byte {
+        0x00..=0x7f => return Awaited::Character,
+        0xc2..=0xdf => (0x80, 0xbf, 0),
+        0xe0 => (0xa0, 0xbf, 1),
+        0xed => (0x80, 0x9f, 1),
+        0xe1..=0xef => (0x80, 0xbf, 1),
+        0xf0 => (0x90, 0xbf, 2),
+        0xf1..=0xf3 => (0x80, 0xbf, 2),
+        0xf4 => (0x80, 0x8f, 2),
+        _ => return Awaited::Nothing,
+    };
+    Awaited::Range { low, high, more }
 }
 
 // What follows when so many bytes of a character are still to come.
 fn behind(more: u8) -> Awaited
     ensures { await result ≡ further more }
 {
-    if more == 0 {
-        Awaited::Character
-    } else {
-        Awaited::Range(0x80, 0xbf, more - 1)
+    match more {
+        0 => Awaited::Character,
+        _ => Awaited::Range {
+            low: 0x80,
+            high: 0xbf,
+            more: more - 1,
+        },
     }
 }
 
@@ -49,13 +53,8 @@ impl Awaited {
     {
         match self {
             Awaited::Character => behind_first(byte),
-            Awaited::Range(lo, hi, more) => {
-                if byte < lo || byte > hi {
-                    return Awaited::Nothing;
-                }
-                behind(more)
-            }
-            Awaited::Nothing => Awaited::Nothing,
+            Awaited::Range { low, high, more } if (low..=high).contains(&byte) => behind(more),
+            Awaited::Range { .. } | Awaited::Nothing => Awaited::Nothing,
         }
     }
 
@@ -63,20 +62,13 @@ impl Awaited {
     pub fn after(self, piece: &[u8]) -> Awaited
         ensures { await result ≡ all_turned (await self) piece.now }
     {
-        let mut state = self;
-        for byte in piece {
-            state = state.turn(*byte);
-        }
-        state
+        piece.iter().fold(self, |state, byte| state.turn(*byte))
     }
 
     /// Whether the text may end here.
     pub fn is_complete(self) -> bool
         ensures { result ≡ complete (await self) }
     {
-        match self {
-            Awaited::Character => true,
-            _ => false,
-        }
+        matches!(self, Awaited::Character)
     }
 }

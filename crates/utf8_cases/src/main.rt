@@ -2,11 +2,17 @@
 //! and around every boundary of the four-byte forms.
 #![tactic(auto)]
 
+ghost use Rattle.std.specs.Prelude.{◌<◌, length};
+
+use std::fmt;
 use std::str::from_utf8;
 use utf8::is_utf8;
 
+// Bytes at the edges of the ranges in which a second or later byte may lie.
+const EDGES: [u8; 10] = [0x00, 0x7f, 0x80, 0x8f, 0x90, 0x9f, 0xa0, 0xbf, 0xc0, 0xff];
+
 /// How many sequences were tried, how many are well formed, and on how many the two checks differ.
-#[derive(Clone, Copy)]
+#[derive(Clone, Copy, Default)]
 struct Tally {
     tried: u64,
     formed: u64,
@@ -14,12 +20,6 @@ struct Tally {
 }
 
 impl Tally {
-    const NONE: Tally = Tally {
-        tried: 0,
-        formed: 0,
-        differ: 0,
-    };
-
     fn note(&mut self, bytes: &[u8]) {
         let ours = is_utf8(bytes);
         self.tried = self.tried.saturating_add(1);
@@ -32,59 +32,64 @@ impl Tally {
     }
 }
 
-// A first byte, and every byte behind it, and every two.
-fn up_to_three(tallies: &mut [Tally; 3], a: u8) {
-    tallies[0].note(&[a]);
-    for b in 0..=255u8 {
-        tallies[1].note(&[a, b]);
-        for c in 0..=255u8 {
-            tallies[2].note(&[a, b, c]);
+impl fmt::Display for Tally {
+    fn fmt<W: fmt::Write>(&self, f: &mut fmt::Formatter<W>) -> fmt::Result {
+        write!(
+            f,
+            "{} tried, {} well formed, {} differ",
+            self.tried, self.formed, self.differ
+        )
+    }
+}
+
+/// A tally for each length of a sequence.
+#[derive(Default, Drop)]
+struct Tallies([Tally; 5]);
+
+impl Tallies {
+    fn note(&mut self, bytes: &[u8])
+        requires { length bytes.now < 5 }
+    {
+        self.0[bytes.len()].note(bytes);
+    }
+
+    // A first byte, and every byte behind it, and every two.
+    fn up_to_three(&mut self, a: u8) {
+        self.note(&[a]);
+        for b in 0..=255u8 {
+            self.note(&[a, b]);
+            for c in 0..=255u8 {
+                self.note(&[a, b, c]);
+            }
+        }
+    }
+
+    fn four(&mut self, a: u8, b: u8) {
+        for c in EDGES {
+            for d in EDGES {
+                self.note(&[a, b, c, d]);
+            }
         }
     }
 }
 
-// Bytes at the edges of the ranges in which a second or later byte may lie.
-const EDGES: [u8; 10] = [0x00, 0x7f, 0x80, 0x8f, 0x90, 0x9f, 0xa0, 0xbf, 0xc0, 0xff];
-
-fn four(tally: &mut Tally, a: u8, b: u8) {
-    for c in EDGES {
-        for d in EDGES {
-            tally.note(&[a, b, c, d]);
-        }
-    }
-}
-
-fn run(rt: &HostRuntime) -> anyhow::Result<()> {
-    let mut tallies = [Tally::NONE; 3];
-    let mut none = Tally::NONE;
-    none.note(&[]);
-    println!(rt;
-        "0 bytes: {} tried, {} well formed, {} differ",
-        none.tried, none.formed, none.differ
-    )?;
+fn compared() -> Tallies {
+    let mut tallies = Tallies::default();
+    tallies.note(&[]);
     for a in 0..=255u8 {
-        up_to_three(&mut tallies, a);
+        tallies.up_to_three(a);
     }
-    for (i, t) in tallies.iter().enumerate() {
-        let n = i.saturating_add(1);
-        println!(rt;
-            "{n} bytes: {} tried, {} well formed, {} differ",
-            t.tried, t.formed, t.differ
-        )?;
-    }
-    let mut last = Tally::NONE;
     for a in 0xee..=0xf7u8 {
         for b in 0..=255u8 {
-            four(&mut last, a, b);
+            tallies.four(a, b);
         }
     }
-    println!(rt;
-        "4 bytes: {} tried, {} well formed, {} differ",
-        last.tried, last.formed, last.differ
-    )?;
-    Ok(())
+    tallies
 }
 
 fn main(rt: HostRuntime) -> anyhow::Result<()> {
-    run(&rt)
+    for (length, tally) in compared().0.iter().enumerate() {
+        println!(rt; "{length} bytes: {tally}")?;
+    }
+    Ok(())
 }

@@ -1,10 +1,8 @@
 -- What another writer makes: encodings by pywatchman 4.9.0, as tools/make_watchman_sample has them.
-use Rattle.std.specs.Prelude.{◌≡◌, ℕ, List, [], ◌∷◌, pos, negsuc}
+use Rattle.std.specs.Prelude.{◌≡◌, [], ◌∷◌, pos, negsuc}
 use Rattle.format.specs.declared.width.Width.TheVariants.{W8, W16, W32, W64}
-use Rattle.values.specs.Values.{Value, Values, Key, as_bytes, null, yes_value, no_value, integer, real, bytes, array, object, no_values, value, no_pairs, pair, encoding, events, array_begin, array_end, map_begin, map_end, key, an_integer, a_real, some_bytes, is_true, is_false, is_null, Formed}
-
-abbrev pub named : List ℕ → Key
-named name = record { tag = as_bytes; width = W8; name = name }
+use Rattle.values.specs.Values.{Value, Values, null, yes_value, no_value, integer, real, bytes, array, object, no_values, value, no_pairs, pair, encoding, events, array_begin, array_end, map_begin, map_end, key, an_integer, a_real, some_bytes, is_true, is_false, is_null, Formed}
+use Rattle.values.specs.Examples.{named}
 
 -- [1.5, True, False, None, 5, -129, 2 ** 20, -(2 ** 40), b"\xc0\x80", "ab", [], {"k": [7]}]
 abbrev pub last_kinds : Values

@@ -5,15 +5,13 @@ ghost use Rattle.values.specs.Examples.{Examples};
 ghost use Rattle.values.specs.Watchman.{Watchman};
 
 /// The worked examples of the format hold of its definitions.
-pub fn examples_hold() -> u8
+#[tactic(auto, unfolding(crate::specs::Values::count_encoding, utf8::specs::Utf8::utf8))]
+pub fn examples_hold()
     ensures { Examples }
-{
-    0
-}
+{}
 
 /// What another writer made is the encoding of the value that it was given, with its events.
-pub fn watchman_agrees() -> u8
+#[tactic(auto, unfolding(crate::specs::Values::count_encoding, utf8::specs::Utf8::utf8))]
+pub fn watchman_agrees()
     ensures { Watchman }
-{
-    0
-}
+{}
