@@ -10,8 +10,16 @@ use source::piece::PieceSource;
 use std::process::Abort;
 use std::test::Fail;
 
-fn accepts<R: DeRead + Drop>(rt: &impl Abort, read: R, header: Header) {
-    assert_eq!(rt; Bunser::new(read).read_pdu(), Ok(header));
+// What reading a header over this reader comes to, and how many bytes are then taken.
+fn comes_to<R: DeRead + Drop>(
+    rt: &impl Abort,
+    read: R,
+    answer: Result<Header, Refusal>,
+    count: usize,
+) {
+    let mut bunser = Bunser::new(read);
+    assert_eq!(rt; bunser.read_pdu(), answer);
+    assert_eq!(rt; bunser.read_count(), count);
 }
 
 fn accepted(rt: &impl Abort, bytes: &[u8], capabilities: u32, start: usize, length: usize) {
@@ -20,17 +28,27 @@ fn accepted(rt: &impl Abort, bytes: &[u8], capabilities: u32, start: usize, leng
         start,
         length,
     };
-    accepts(rt, SliceRead::new(bytes), header);
-    accepts(rt, Fence::new(SliceRead::new(bytes), start), header);
-    for most in 1..4 {
-        accepts(rt, IoRead::new(PieceSource::new(bytes, most, None)), header);
-    }
-    let half = bytes.len() / 2;
-    let chain = Chain::new(
-        PieceSource::new(&bytes[0..half], 64, None),
-        PieceSource::new(&bytes[half..], 64, Some(SourceFault(9))),
+    comes_to(rt, SliceRead::new(bytes), Ok(header), start);
+    comes_to(
+        rt,
+        Fence::new(SliceRead::new(bytes), start),
+        Ok(header),
+        start,
     );
-    accepts(rt, IoRead::new(chain), header);
+    for most in 1..4 {
+        comes_to(
+            rt,
+            IoRead::new(PieceSource::new(bytes, most, None)),
+            Ok(header),
+            start,
+        );
+    }
+    let (front, back) = bytes.split_at(bytes.len() / 2);
+    let chain = Chain::new(
+        PieceSource::new(front, 64, None),
+        PieceSource::new(back, 64, Some(SourceFault(9))),
+    );
+    comes_to(rt, IoRead::new(chain), Ok(header), start);
 }
 
 #[test]
@@ -66,15 +84,8 @@ fn refuses<R: DeRead + Drop>(
     error: ReadError,
     count: usize,
 ) {
-    let mut bunser = Bunser::new(read);
-    assert_eq!(rt;
-        bunser.read_pdu(),
-        Err(Refusal {
-            place,
-            cause: Cause::Read(error),
-        })
-    );
-    assert_eq!(rt; bunser.read_count(), count);
+    let cause = Cause::Read(error);
+    comes_to(rt, read, Err(Refusal { place, cause }), count);
 }
 
 // The same refusal over a slice, and over pieces of each size.

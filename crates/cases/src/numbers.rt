@@ -7,19 +7,20 @@ use source::SourceFault;
 use source::piece::PieceSource;
 use std::process::Abort;
 
-fn one_int<R: DeRead + Drop>(rt: &impl Abort, read: R, value: i64, count: usize) {
+// What reading an integer over this reader comes to, and how many bytes are then taken.
+fn reads<R: DeRead + Drop>(rt: &impl Abort, read: R, answer: Result<i64, ReadError>, count: usize) {
     let mut bunser = Bunser::new(read);
-    assert_eq!(rt; bunser.check_next_int(), Ok(value));
+    assert_eq!(rt; bunser.check_next_int(), answer);
     assert_eq!(rt; bunser.read_count(), count);
 }
 
 fn int(rt: &impl Abort, bytes: &[u8], value: i64) {
-    one_int(rt, SliceRead::new(bytes), value, bytes.len());
+    reads(rt, SliceRead::new(bytes), Ok(value), bytes.len());
     for most in 1..5 {
-        one_int(
+        reads(
             rt,
             IoRead::new(PieceSource::new(bytes, most, None)),
-            value,
+            Ok(value),
             bytes.len(),
         );
     }
@@ -51,27 +52,21 @@ fn the_widest_at_its_edges(rt: HostRuntime) {
     int(&rt, b"\x06\x05\x00\x00\x00\x00\x00\x00\x00", 5);
 }
 
-fn no_int<R: DeRead + Drop>(rt: &impl Abort, read: R, error: ReadError, count: usize) {
-    let mut bunser = Bunser::new(read);
-    assert_eq!(rt; bunser.check_next_int(), Err(error));
-    assert_eq!(rt; bunser.read_count(), count);
-}
-
 #[test]
 fn what_is_no_integer_is_not_taken(rt: HostRuntime) {
     for tag in 0..=255u8 {
-        if tag < 3 || tag > 6 {
+        if !(3..=6).contains(&tag) {
             let bytes = [tag, 0, 0];
-            no_int(
+            reads(
                 &rt,
                 SliceRead::new(&bytes),
-                ReadError::Byte(Kind::Integer, tag),
+                Err(ReadError::Byte(Kind::Integer, tag)),
                 0,
             );
-            no_int(
+            reads(
                 &rt,
                 IoRead::new(PieceSource::new(&bytes, 1, None)),
-                ReadError::Byte(Kind::Integer, tag),
+                Err(ReadError::Byte(Kind::Integer, tag)),
                 0,
             );
         }
@@ -80,24 +75,24 @@ fn what_is_no_integer_is_not_taken(rt: HostRuntime) {
 
 #[test]
 fn a_cut_number_has_its_tag_taken(rt: HostRuntime) {
-    no_int(&rt, SliceRead::new(b""), ReadError::Short, 0);
-    no_int(&rt, SliceRead::new(b"\x03"), ReadError::Short, 1);
-    no_int(
+    reads(&rt, SliceRead::new(b""), Err(ReadError::Short), 0);
+    reads(&rt, SliceRead::new(b"\x03"), Err(ReadError::Short), 1);
+    reads(
         &rt,
         SliceRead::new(b"\x06\x01\x02\x03\x04\x05\x06\x07"),
-        ReadError::Short,
+        Err(ReadError::Short),
         1,
     );
-    no_int(
+    reads(
         &rt,
         IoRead::new(PieceSource::new(b"\x05\x01\x02\x03", 2, None)),
-        ReadError::Short,
+        Err(ReadError::Short),
         1,
     );
-    no_int(
+    reads(
         &rt,
         IoRead::new(PieceSource::new(b"\x04\x01", 9, Some(SourceFault(77)))),
-        ReadError::Source(77),
+        Err(ReadError::Source(77)),
         1,
     );
 }

@@ -1,4 +1,4 @@
-use Rattle.std.proofs.Common.{◌≡◌, ◌/◌, ◌++◌, length, take, ap, ◌∙◌, take-append-drop}
+use Rattle.std.proofs.Common.{◌/◌, ◌++◌, length, take, ap, ◌∙◌, take-append-drop}
 use Rattle.tablecheck.proofs.Agreeing.{agree}
 use Rattle.tablecheck.proofs.Findings.of.Goals as goal
 
