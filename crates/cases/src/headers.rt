@@ -1,3 +1,4 @@
+use super::faults::fault;
 use bunser::{Bunser, Header};
 use format::refusal::{Cause, Kind, Layer, ReadError, Refusal};
 use read::DeRead;
@@ -22,12 +23,9 @@ fn comes_to<R: DeRead + Drop>(
     assert_eq!(rt; bunser.read_count(), count);
 }
 
-fn accepted(rt: &impl Abort, bytes: &[u8], capabilities: u32, start: usize, length: usize) {
-    let header = Header {
-        capabilities,
-        start,
-        length,
-    };
+// The same header over a slice, up to a fence, over pieces of each size and over a chain.
+fn accepted(rt: &impl Abort, bytes: &[u8], header: Header) {
+    let start = header.start;
     comes_to(rt, SliceRead::new(bytes), Ok(header), start);
     comes_to(
         rt,
@@ -46,34 +44,48 @@ fn accepted(rt: &impl Abort, bytes: &[u8], capabilities: u32, start: usize, leng
     let (front, back) = bytes.split_at(bytes.len() / 2);
     let chain = Chain::new(
         PieceSource::new(front, 64, None),
-        PieceSource::new(back, 64, Some(SourceFault(9))),
+        PieceSource::new(back, 64, SourceFault::new(9)),
     );
     comes_to(rt, IoRead::new(chain), Ok(header), start);
 }
 
 #[test]
 fn headers_of_every_width(rt: HostRuntime) {
-    accepted(&rt, b"\x00\x02\x00\x00\x00\x00\x03\x01\x0a", 0, 8, 1);
+    accepted(
+        &rt,
+        b"\x00\x02\x00\x00\x00\x00\x03\x01\x0a",
+        Header {
+            capabilities: 0,
+            start: 8,
+            length: 1,
+        },
+    );
     accepted(
         &rt,
         b"\x00\x02\x01\x00\x00\x80\x04\x00\x01",
-        0x8000_0001,
-        9,
-        256,
+        Header {
+            capabilities: 0x8000_0001,
+            start: 9,
+            length: 256,
+        },
     );
     accepted(
         &rt,
         b"\x00\x02\x04\x03\x02\x01\x05\x1b\x00\x00\x00",
-        0x0102_0304,
-        11,
-        27,
+        Header {
+            capabilities: 0x0102_0304,
+            start: 11,
+            length: 27,
+        },
     );
     accepted(
         &rt,
         b"\x00\x02\x00\x00\x00\x00\x06\xf1\xff\xff\xff\xff\xff\xff\x0f",
-        0,
-        15,
-        1_152_921_504_606_846_961,
+        Header {
+            capabilities: 0,
+            start: 15,
+            length: 1_152_921_504_606_846_961,
+        },
     );
 }
 
@@ -121,33 +133,33 @@ fn a_header_that_is_cut_short(rt: HostRuntime) {
 fn a_header_before_a_fault(rt: HostRuntime) {
     refuses(
         &rt,
-        IoRead::new(PieceSource::new(b"\x00", 1, Some(SourceFault(65_535)))),
+        IoRead::new(PieceSource::new(b"\x00", 1, SourceFault::new(65_535))),
         0,
-        ReadError::Source(65_535),
+        ReadError::Source(fault(65_535)),
         0,
     );
     refuses(
         &rt,
-        IoRead::new(PieceSource::new(b"\x00\x02\x00", 1, Some(SourceFault(8)))),
+        IoRead::new(PieceSource::new(b"\x00\x02\x00", 1, SourceFault::new(8))),
         2,
-        ReadError::Source(8),
+        ReadError::Source(fault(8)),
         2,
     );
     let chain = Chain::new(
-        PieceSource::new(b"\x00\x02\x00\x00\x00\x00\x05\x01", 3, Some(SourceFault(1))),
+        PieceSource::new(b"\x00\x02\x00\x00\x00\x00\x05\x01", 3, SourceFault::new(1)),
         PieceSource::new(b"\x00\x00\x00", 3, None),
     );
-    refuses(&rt, IoRead::new(chain), 6, ReadError::Source(1), 7);
+    refuses(&rt, IoRead::new(chain), 6, ReadError::Source(fault(1)), 7);
 }
 
 #[test]
 fn a_header_that_breaks_a_rule(rt: HostRuntime) {
-    refused(&rt, b"\x00\x01", 0, ReadError::Magic(0, 1), 2);
+    refused(&rt, b"\x00\x01", 0, ReadError::Magic([0, 1]), 2);
     refused(
         &rt,
         b"\x02\x00\x00\x00\x00\x00\x03\x01",
         0,
-        ReadError::Magic(2, 0),
+        ReadError::Magic([2, 0]),
         2,
     );
     refused(
@@ -232,9 +244,9 @@ fn a_refusal_in_numbers_and_words(rt: HostRuntime) -> Result<(), Fail> {
         (end.number(), end.layer(), end.latches()),
         (9, Layer::Decoder, true)
     );
-    let fault = ReadError::Source(5).at(0);
+    let source = ReadError::Source(fault(5)).at(0);
     assert_eq!(rt;
-        (fault.number(), fault.layer(), fault.latches()),
+        (source.number(), source.layer(), source.latches()),
         (4, Layer::Source, true)
     );
     let room = ReadError::Room.at(0);
@@ -242,7 +254,7 @@ fn a_refusal_in_numbers_and_words(rt: HostRuntime) -> Result<(), Fail> {
         (room.number(), room.layer(), room.latches()),
         (14, Layer::Decoder, false)
     );
-    let words = ReadError::Magic(0, 1).at(0).to_string(heap)?;
+    let words = ReadError::Magic([0, 1]).at(0).to_string(heap)?;
     assert_eq!(rt;
         words.as_str(),
         "refusal 5 at byte 0: this is not a table: it should begin with the bytes 00 02 and begins with 00 01"

@@ -1,6 +1,8 @@
-//! Executed cases of sources, readers, numbers and the header.
+//! Executed cases of sources, readers, numbers, texts and the header.
 #![tactic(auto)]
 
+#[cfg(test)]
+mod faults;
 #[cfg(test)]
 mod headers;
 #[cfg(test)]
@@ -9,3 +11,5 @@ mod numbers;
 mod readers;
 #[cfg(test)]
 mod sources;
+#[cfg(test)]
+mod texts;

@@ -1,5 +1,7 @@
+use super::faults::fault;
 use bunser::Bunser;
 use format::refusal::{Kind, ReadError};
+use format::tags::{NoTag, Tag};
 use read::DeRead;
 use read::io::IoRead;
 use read::slice::SliceRead;
@@ -91,8 +93,8 @@ fn a_cut_number_has_its_tag_taken(rt: HostRuntime) {
     );
     reads(
         &rt,
-        IoRead::new(PieceSource::new(b"\x04\x01", 9, Some(SourceFault(77)))),
-        Err(ReadError::Source(77)),
+        IoRead::new(PieceSource::new(b"\x04\x01", 9, SourceFault::new(77))),
+        Err(ReadError::Source(fault(77))),
         1,
     );
 }
@@ -106,4 +108,14 @@ fn a_count_is_not_negative(rt: HostRuntime) {
     let mut less = Bunser::new(IoRead::new(PieceSource::new(b"\x04\xff\xff", 1, None)));
     assert_eq!(rt; less.next_count(), Err(ReadError::Negative));
     assert_eq!(rt; less.read_count(), 3, "the integer has been taken");
+}
+
+#[test]
+fn every_tag_has_its_byte(rt: HostRuntime) {
+    for byte in 0..=255u8 {
+        match Tag::try_from(byte) {
+            Ok(tag) => assert_eq!(rt; u8::from(tag), byte),
+            Err(none) => assert_eq!(rt; (none, byte > 0x0d), (NoTag(byte), true)),
+        }
+    }
 }

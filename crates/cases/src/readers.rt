@@ -1,3 +1,4 @@
+use super::faults::fault;
 use read::fence::Fence;
 use read::io::IoRead;
 use read::slice::SliceRead;
@@ -54,7 +55,7 @@ fn every_reader_gives_the_same_bytes(rt: HostRuntime) -> Result<(), Fail> {
     for most in 0..7 {
         zero_to_four(&rt, &mut IoRead::new(PieceSource::new(&bytes, most, None)))?;
         let chain = Chain::new(
-            SliceSource::new(&bytes[0..2]),
+            SliceSource::new(&bytes[..2]),
             PieceSource::new(&bytes[2..], most, None),
         );
         zero_to_four(&rt, &mut Fence::new(IoRead::new(chain), 6))?;
@@ -101,7 +102,7 @@ fn a_stop_may_be_reached_and_not_passed(rt: HostRuntime) {
     stops_at_three(
         &rt,
         &mut Fence::new(
-            IoRead::new(PieceSource::new(&bytes, 2, Some(SourceFault(4)))),
+            IoRead::new(PieceSource::new(&bytes, 2, SourceFault::new(4))),
             3,
         ),
     );
@@ -164,10 +165,13 @@ fn no_bytes_leave_the_peeked_byte(rt: HostRuntime) {
 #[test]
 fn a_shortfall_zeroes_the_front_of_the_buffer(rt: HostRuntime) {
     for most in 1..4 {
-        let mut r = IoRead::new(PieceSource::new(b"ab", most, Some(SourceFault(65_535))));
+        let mut r = IoRead::new(PieceSource::new(b"ab", most, SourceFault::new(65_535)));
         let mut buf = [0xee; 5];
         assert_eq!(rt; r.peek(), Ok(0x61));
-        assert_eq!(rt; r.next_bytes(4, &mut buf), Err(Fault::Source(65_535)));
+        assert_eq!(rt;
+            r.next_bytes(4, &mut buf),
+            Err(Fault::Source(fault(65_535)))
+        );
         assert_eq!(rt; buf, [0, 0, 0, 0, 0xee]);
         assert_eq!(rt; r.read_count(), 0);
         assert_eq!(rt; r.peek(), Ok(0x61), "the peeked byte stays");
