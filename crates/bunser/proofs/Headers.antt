@@ -1,32 +1,19 @@
 -- How the parts of a header are told.
-use Rattle.std.proofs.Common.{◌≡◌, ℕ, ◌+◌, ◌≤◌, Bool, true, false, cond, not, eqb, ◌&&◌, List, get_or, take, IsErrAnd, IfOk, Some, None, Ok, Err, Option, Result, sym, refl, ap, ◌∙◌, subst, arith, w32}
-use Rattle.std.specs.Int.{from_le_bytes}
+use Rattle.std.proofs.Common.{◌≡◌, ℕ, ◌+◌, ◌≤◌, Bool, true, false, cond, List, IsErrAnd, IfOk, Some, None, Ok, Err, Option, Result, sym, refl, ap, ◌∙◌, subst, arith}
 use Rattle.std.proofs.lemmas.Bool.{ltb-false}
-use Rattle.read.specs.Reader.{View, past, advanced}
+use Rattle.read.specs.Reader.{View, past}
 use Rattle.format.specs.declared.refusal.ReadError.{ReadError}
 use Rattle.format.specs.declared.refusal.ReadError.TheVariants.{Magic, TooLong}
 use Rattle.format.specs.declared.refusal.Refusal.{Refusal}
-use Rattle.format.specs.Integers.{little_endian}
 use Rattle.bunser.specs.declared.Header.{Header}
-use Rattle.bunser.specs.Outcome.{Outcome, got, bad, and_then, at, placed, placed_result, asked, answer, RefusalLeaves, Tells, TellsAt}
+use Rattle.bunser.specs.Outcome.{Outcome, got, bad, and_then, at, placed, placed_result, RefusalLeaves, Tells, TellsAt}
 use Rattle.bunser.specs.Reads.{array_read, count_read, magical, is_magic, magic_read, capabilities_read, bounded, length_read, header_read}
-use Rattle.bunser.proofs.Telling.{told_ok, told_placed, then_ok, then_stop, on_true, on_false, ok_err, err_is}
-use Rattle.bunser.proofs.Bytes.{le_sum}
-use Rattle.bunser.proofs.Integers.{number_told, number_stop}
+use Rattle.bunser.proofs.Telling.{told_ok, told_placed, then_ok, then_stop, on_true, on_false, ok_err}
 
 -- a placed read that gave something gave it unplaced
 pub unplaced : {A : Type 0} (p : ℕ) (a : A) (r : Result A ReadError) → Ok a ≡ placed_result p r → r ≡ Ok a
 unplaced p a (Ok b) e = let k : b ≡ a = cc in ap Ok k
 unplaced p a (Err f) e = ok_err e
-
--- as two bytes are compared with the magic
-pub alike : (bytes : List ℕ) (differs : Bool) → differs ≡ not (eqb (get_or bytes 0 0) 0 && (eqb (get_or bytes 1 0) 2 && true)) → magical (get_or bytes 0 0) (get_or bytes 1 0) ≡ not differs
-alike bytes differs e = go (eqb (get_or bytes 0 0) 0) (eqb (get_or bytes 1 0) 2) differs e
-  where
-    go : (a b c : Bool) → c ≡ not (a && (b && true)) → a && b ≡ not c
-    go true true c e = ap not (sym e)
-    go true false c e = ap not (sym e)
-    go false b c e = ap not (sym e)
 
 module _ (lends : Bool) (end : Option ℕ) (v w : View) (p : ℕ) (here : p ≡ v.count) where
   module _ (r : Result (List ℕ) ReadError) (reads : Tells (array_read lends end 2 v) r w) where
@@ -40,62 +27,40 @@ module _ (lends : Bool) (end : Option ℕ) (v w : View) (p : ℕ) (here : p ≡ 
     judge : List ℕ → Outcome Refusal Unit
     judge bytes = is_magic v.count bytes w
 
-    pub magic_wrong : (bytes : List ℕ) (f : Refusal) → Ok bytes ≡ placed_result p r → magical (get_or bytes 0 0) (get_or bytes 1 0) ≡ false → f ≡ at (Magic (get_or bytes 0 0) (get_or bytes 1 0)) p →
+    pub magic_wrong : (bytes : List ℕ) (f : Refusal) → Ok bytes ≡ placed_result p r → magical bytes ≡ false → f ≡ at (Magic bytes) p →
         TellsAt (magic_read lends end v) (Err f) w
     unfolding magic_read
     magic_wrong bytes f is wrong by =
         then_ok RefusalLeaves (placed v.count (array_read lends end 2 v)) (is_magic v.count) bytes w (Err f) w (bytes_told (Ok bytes) is)
-        (on_false RefusalLeaves (magical (get_or bytes 0 0) (get_or bytes 1 0)) (got tt w) (bad (at (Magic (get_or bytes 0 0) (get_or bytes 1 0)) v.count) w) (Err f) w wrong
-        (ap Err (by ∙ ap (at (Magic (get_or bytes 0 0) (get_or bytes 1 0))) here), refl))
+        (on_false RefusalLeaves (magical bytes) (got tt w) (bad (at (Magic bytes) v.count) w) (Err f) w wrong
+        (ap Err (by ∙ ap (at (Magic bytes)) here), refl))
 
-    pub magic_right : (bytes : List ℕ) → Ok bytes ≡ placed_result p r → magical (get_or bytes 0 0) (get_or bytes 1 0) ≡ true → TellsAt (magic_read lends end v) (Ok tt) w
+    pub magic_right : (bytes : List ℕ) → Ok bytes ≡ placed_result p r → magical bytes ≡ true → TellsAt (magic_read lends end v) (Ok tt) w
     unfolding magic_read
     magic_right bytes is right =
         then_ok RefusalLeaves (placed v.count (array_read lends end 2 v)) (is_magic v.count) bytes w (Ok tt) w (bytes_told (Ok bytes) is)
-        (on_true RefusalLeaves (magical (get_or bytes 0 0) (get_or bytes 1 0)) (got tt w) (bad (at (Magic (get_or bytes 0 0) (get_or bytes 1 0)) v.count) w) (Ok tt) w right (refl, refl))
+        (on_true RefusalLeaves (magical bytes) (got tt w) (bad (at (Magic bytes) v.count) w) (Ok tt) w right (refl, refl))
 
-  module _ (r : Result (List ℕ) ReadError) (reads : Tells (array_read lends end 4 v) r w) where
-    pub capabilities_stop : (f : Refusal) (s : Result ℕ Refusal) → Err f ≡ placed_result p r → IsErrAnd s (λ e. e ≡ f) → TellsAt (capabilities_read lends end v) s w
-    unfolding capabilities_read
-    capabilities_stop f s is by = go r reads is
-      where
-        go : (r : Result (List ℕ) ReadError) → Tells (array_read lends end 4 v) r w → Err f ≡ placed_result p r → TellsAt (capabilities_read lends end v) s w
-        go (Ok bytes) h is = ok_err (sym is)
-        go (Err e) h is =
-            let same : f ≡ at e p = cc in
-            told_placed (answer (asked end v None 4) v (little_endian (take 4 v.coming)) (advanced lends 4 v)) p v.count (Err e) s w here
-            (number_stop lends end 4 v w little_endian e (Err e) h refl) (err_is s f by ∙ ap Err same)
-
-    pub capabilities_told : (bytes : List ℕ) → Ok bytes ≡ placed_result p r → (bits : ℕ) → bits ≡ from_le_bytes w32 bytes → TellsAt (capabilities_read lends end v) (Ok bits) w
-    unfolding capabilities_read
-    capabilities_told bytes is bits digits =
-        let came = subst (λ r. Tells (array_read lends end 4 v) r w) (unplaced p bytes r is) reads in
-        told_placed (answer (asked end v None 4) v (little_endian (take 4 v.coming)) (advanced lends 4 v)) p v.count (Ok bits) (Ok bits) w here
-        (number_told lends end 4 v w little_endian (from_le_bytes w32) (le_sum 3) bytes bits came digits) refl
-
-  module _ (caps : ℕ) (r : Result ℕ ReadError) (reads : Tells (count_read lends end v) r w) where
-    count_told : (s : Result ℕ Refusal) → s ≡ placed_result p r → TellsAt (placed v.count (count_read lends end v)) s w
-    count_told s is = told_placed (count_read lends end v) p v.count r s w here reads is
-
-    pub length_stop : (f : Refusal) (s : Result Header Refusal) → Err f ≡ placed_result p r → IsErrAnd s (λ e. e ≡ f) → TellsAt (length_read lends end caps v) s w
+  module _ (caps : ℕ) where
+    pub length_stop : (f : Refusal) (s : Result Header Refusal) → TellsAt (placed v.count (count_read lends end v)) (Err f) w → IsErrAnd s (λ e. e ≡ f) → TellsAt (length_read lends end caps v) s w
     unfolding length_read
-    length_stop f s is by = then_stop RefusalLeaves (placed v.count (count_read lends end v)) (bounded v.count caps) f w s (count_told (Err f) is) by
+    length_stop f s h by = then_stop RefusalLeaves (placed v.count (count_read lends end v)) (bounded v.count caps) f w s h by
 
-    module _ (n : ℕ) (is : Ok n ≡ placed_result p r) (start : ℕ) (there : start ≡ w.count) where
+    module _ (n : ℕ) (counted : TellsAt (placed v.count (count_read lends end v)) (Ok n) w) (start : ℕ) (there : start ≡ w.count) where
       far : past (Some 1152921504606846976) (start + n) ≡ past (Some 1152921504606846976) (w.count + n)
       far = ap (λ k. past (Some 1152921504606846976) (k + n)) there
 
       pub length_far : (f : Refusal) → past (Some 1152921504606846976) (start + n) ≡ true → f ≡ at TooLong p → TellsAt (length_read lends end caps v) (Err f) w
       unfolding length_read
       length_far f passes by =
-          then_ok RefusalLeaves (placed v.count (count_read lends end v)) (bounded v.count caps) n w (Err f) w (count_told (Ok n) is)
+          then_ok RefusalLeaves (placed v.count (count_read lends end v)) (bounded v.count caps) n w (Err f) w counted
           (on_true RefusalLeaves (past (Some 1152921504606846976) (w.count + n)) (bad (at TooLong v.count) w) (got (record { capabilities = caps; start = w.count; length = n }) w) (Err f) w (sym far ∙ passes)
           (ap Err (by ∙ ap (at TooLong) here), refl))
 
       pub length_near : past (Some 1152921504606846976) (start + n) ≡ false → TellsAt (length_read lends end caps v) (Ok (record { capabilities = caps; start = start; length = n })) w
       unfolding length_read
       length_near stays =
-          then_ok RefusalLeaves (placed v.count (count_read lends end v)) (bounded v.count caps) n w _ w (count_told (Ok n) is)
+          then_ok RefusalLeaves (placed v.count (count_read lends end v)) (bounded v.count caps) n w _ w counted
           (on_false RefusalLeaves (past (Some 1152921504606846976) (w.count + n)) (bad (at TooLong v.count) w) (got (record { capabilities = caps; start = w.count; length = n }) w) _ w (sym far ∙ stays)
           (ap (λ k. Ok (record { capabilities = caps; start = k; length = n })) there, refl))
 

@@ -5,7 +5,7 @@ use Rattle.std.proofs.lemmas.List.{take_all, take_at}
 use Rattle.utf8.specs.Utf8.{Await, character, utf8}
 use Rattle.utf8.specs.Pieces.{all_turned, complete}
 use Rattle.utf8.proofs.Turning.{turned_on, judged_in_pieces}
-use Rattle.source.specs.declared.SourceFault.{SourceFault}
+use Rattle.source.specs.declared.fault.SourceFault.{SourceFault}
 use Rattle.read.specs.declared.Taken.{Taken}
 use Rattle.read.specs.declared.Taken.TheVariants.{Copied}
 use Rattle.read.specs.Reader.{View, Spent, past, room, shortfall, advanced, put}
@@ -143,8 +143,8 @@ module _ (end : Option ℕ) (n : ℕ) (v w : View) (left : ℕ) (a : Await) (d :
               let s : error_of (shortfall v.ending) ≡ Short = ap (λ o. error_of (shortfall o)) z in
               subst (λ m. Tells (passing false m) (Err e) u) (sym (whole_refused checked Short short s)) (ap Err (is ∙ s), subst (λ x. Spent x u) there_again (subst (λ e. ReadLeaves e w u) (is ∙ s) leaves))
           go (Some f) z =
-              let s : error_of (shortfall v.ending) ≡ Source f.0 = ap (λ o. error_of (shortfall o)) z in
-              subst (λ m. Tells (passing false m) (Err e) u) (sym (whole_refused checked (Source f.0) short s)) (ap Err (is ∙ s), subst (λ x. Spent x u) there_again (subst (λ e. ReadLeaves e w u) (is ∙ s) leaves))
+              let s : error_of (shortfall v.ending) ≡ Source f = ap (λ o. error_of (shortfall o)) z in
+              subst (λ m. Tells (passing false m) (Err e) u) (sym (whole_refused checked (Source f) short s)) (ap Err (is ∙ s), subst (λ x. Spent x u) there_again (subst (λ e. ReadLeaves e w u) (is ∙ s) leaves))
 
       -- a piece is refused only for want of bytes
       pub drawn_stop : (checked : Bool) (e : ReadError) (u : View) → Tells (bytes_read false end (Some 64) k w) (Err e) u → Tells (pass_read checked false end n v) (Err e) u

@@ -6,14 +6,14 @@ use Rattle.std.proofs.lemmas.List.{take_all, take_at, drop_at}
 use Rattle.utf8.specs.Utf8.{utf8}
 use Rattle.read.specs.declared.Taken.{Taken}
 use Rattle.read.specs.declared.Taken.TheVariants.{Lent}
-use Rattle.read.specs.Reader.{View, room, held, advanced, discarded, lies, put}
+use Rattle.read.specs.Reader.{View, room, held, advanced, discarded, lies, put, part_of}
 use Rattle.format.specs.declared.refusal.ReadError.{ReadError}
 use Rattle.format.specs.declared.refusal.ReadError.TheVariants.{Byte, NotText}
 use Rattle.format.specs.declared.refusal.Kind.{Kind}
 use Rattle.format.specs.declared.refusal.Refusal.{Refusal}
 use Rattle.bunser.specs.Outcome.{bad, at, placed, placed_result, asked, answer, ReadLeaves, RefusalLeaves, Tells, TellsAt}
 use Rattle.bunser.specs.Reads.{peek_read, bytes_read, fronts}
-use Rattle.bunser.specs.Texts.{textual, text_read, text_fronts, begins_key, placed_count, behind_key_tag, key_length_read, part_of, referred, is_lent, is_text}
+use Rattle.bunser.specs.Texts.{textual, text_read, text_fronts, begins_key, placed_count, behind_key_tag, key_length_read, referred_at, is_lent, is_text}
 use Rattle.bunser.proofs.Telling.{ok_err, then_ok, then_stop, told_placed, on_true, on_false}
 use Rattle.bunser.proofs.Asking.{granted, Given, given}
 use Rattle.bunser.proofs.Headers.{unplaced}
@@ -42,25 +42,25 @@ module _ (end : Option ℕ) (n : ℕ) (v w : View) (buf buf' : List ℕ) where
 
   -- the bytes of a read that was granted lie where it answered
   pub lies_there : (lends : Bool) (taken : Taken) → length v.kept ≡ cond lends v.count 0 → Tells (bytes_read lends end (room lends buf) n v) (Ok taken) w →
-      buf' ≡ put lends (fronts (asked end v (room lends buf) n) n v) buf → referred lends w taken n buf' ≡ Some (take n v.coming)
+      buf' ≡ put lends (fronts (asked end v (room lends buf) n) n v) buf → referred_at lends w taken n buf' ≡ Some (take n v.coming)
   lies_there true taken kept h at =
       let g = came true taken h in
-      ap (λ t. referred true w t n buf') g.value
-      ∙ ap (λ x. referred true x (Lent v.count) n buf') g.left
+      ap (λ t. referred_at true w t n buf') g.value
+      ∙ ap (λ x. referred_at true x (Lent v.count) n buf') g.left
       ∙ back_part v.kept (take n v.coming) v.count n kept (front_long true g.granted_it)
   lies_there false taken kept h at =
       let g = came false taken h in
-      ap (λ t. referred false w t n buf') g.value
+      ap (λ t. referred_at false w t n buf') g.value
       ∙ ap (λ l. part_of l 0 n) at
       ∙ ap (λ o. part_of (put false (fronts o n v) buf) 0 n) g.granted_it
       ∙ front_part (take n v.coming) (drop (length (take n v.coming)) buf) n (front_long false g.granted_it)
 
   judged_there : (lends : Bool) (taken : Taken) (b : Bool) → length v.kept ≡ cond lends v.count 0 → Tells (bytes_read lends end (room lends buf) n v) (Ok taken) w →
-      buf' ≡ put lends (fronts (asked end v (room lends buf) n) n v) buf → b ≡ is_text (referred lends w taken n buf') → utf8 (take n v.coming) ≡ b
+      buf' ≡ put lends (fronts (asked end v (room lends buf) n) n v) buf → b ≡ is_text (referred_at lends w taken n buf') → utf8 (take n v.coming) ≡ b
   judged_there lends taken b kept h at is = sym (is ∙ ap is_text (lies_there lends taken kept h at))
 
   pub text_told : (lends : Bool) (taken : Taken) (b : Bool) → length v.kept ≡ cond lends v.count 0 → Tells (bytes_read lends end (room lends buf) n v) (Ok taken) w →
-      buf' ≡ put lends (fronts (asked end v (room lends buf) n) n v) buf → b ≡ is_text (referred lends w taken n buf') → b ≡ true →
+      buf' ≡ put lends (fronts (asked end v (room lends buf) n) n v) buf → b ≡ is_text (referred_at lends w taken n buf') → b ≡ true →
       Tells (text_read lends end (room lends buf) n v) (Ok taken) w × (buf' ≡ put lends (text_fronts (asked end v (room lends buf) n) (utf8 (take n v.coming)) n v) buf)
   unfolding text_read
   text_told lends taken b kept h at is yes_it =
@@ -88,7 +88,7 @@ module _ (end : Option ℕ) (n : ℕ) (v w : View) (buf buf' : List ℕ) where
       ∙ ap (λ k. replicate n 0 ++ drop k buf) (long ∙ sym none)
 
   pub no_text_told : (lends : Bool) (taken : Taken) (b : Bool) (buf'' : List ℕ) → length v.kept ≡ cond lends v.count 0 → Tells (bytes_read lends end (room lends buf) n v) (Ok taken) w →
-      buf' ≡ put lends (fronts (asked end v (room lends buf) n) n v) buf → b ≡ is_text (referred lends w taken n buf') → b ≡ false → buf'' ≡ put (is_lent taken) (replicate n 0) buf' →
+      buf' ≡ put lends (fronts (asked end v (room lends buf) n) n v) buf → b ≡ is_text (referred_at lends w taken n buf') → b ≡ false → buf'' ≡ put (is_lent taken) (replicate n 0) buf' →
       Tells (text_read lends end (room lends buf) n v) (Err NotText) w × (buf'' ≡ put lends (text_fronts (asked end v (room lends buf) n) (utf8 (take n v.coming)) n v) buf)
   unfolding text_read
   no_text_told lends taken b buf'' kept h at is no_it wiped =

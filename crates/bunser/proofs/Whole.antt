@@ -1,7 +1,7 @@
 -- A text that is passed over in one read, or refused in one.
 use Rattle.std.proofs.Common.{◌≡◌, ℕ, zero, suc, ◌+◌, Bool, true, false, cond, ltb, [], length, take, Some, None, Ok, Err, Option, Result, sym, refl, ap, ◌∙◌, subst, arith}
 use Rattle.std.proofs.lemmas.Bool.{le-ltb, lt-ltb}
-use Rattle.source.specs.declared.SourceFault.{SourceFault}
+use Rattle.source.specs.declared.fault.SourceFault.{SourceFault}
 use Rattle.read.specs.declared.Taken.{Taken}
 use Rattle.read.specs.declared.Fault.TheVariants as fault
 use Rattle.read.specs.Reader.{View, past, room, shortfall, lies, advanced}
@@ -20,7 +20,7 @@ Undrawn (Source code) = ⊥
 Undrawn End = Unit {0}
 Undrawn Stop = Unit {0}
 Undrawn Room = Unit {0}
-Undrawn (Magic a b) = Unit {0}
+Undrawn (Magic bytes) = Unit {0}
 Undrawn (Byte kind b) = Unit {0}
 Undrawn Negative = Unit {0}
 Undrawn TooLong = Unit {0}
@@ -32,7 +32,7 @@ drawn_nothing (Source code) v h = absurd h
 drawn_nothing End v h = refl
 drawn_nothing Stop v h = refl
 drawn_nothing Room v h = refl
-drawn_nothing (Magic a b) v h = refl
+drawn_nothing (Magic bytes) v h = refl
 drawn_nothing (Byte kind b) v h = refl
 drawn_nothing Negative v h = refl
 drawn_nothing TooLong v h = refl
@@ -44,7 +44,7 @@ lent_nothing (Source code) v = refl
 lent_nothing End v = refl
 lent_nothing Stop v = refl
 lent_nothing Room v = refl
-lent_nothing (Magic a b) v = refl
+lent_nothing (Magic bytes) v = refl
 lent_nothing (Byte kind b) v = refl
 lent_nothing Negative v = refl
 lent_nothing TooLong v = refl

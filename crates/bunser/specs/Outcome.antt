@@ -55,7 +55,7 @@ ReadLeaves Stop v w = w ≡ v
 ReadLeaves Room v w = w ≡ v
 ReadLeaves Short v w = Spent v w
 ReadLeaves (Source code) v w = Spent v w
-ReadLeaves (Magic a b) v w = w ≡ v
+ReadLeaves (Magic bytes) v w = w ≡ v
 ReadLeaves (Byte kind b) v w = w ≡ v
 ReadLeaves Negative v w = w ≡ v
 ReadLeaves TooLong v w = w ≡ v
@@ -86,6 +86,6 @@ abbrev pub TellsAt : {A : Type 0} → Outcome Refusal A → Result A Refusal →
 TellsAt m r w = TellsBy RefusalLeaves m r w
 
 -- A read of a body: what it comes to is told from the declared end and the reader, and the end stays.
-pub record Reads {R : Type 0} (view : R → View) (b c : Bunser R) (Told : Option ℕ → View → View → Type 0) : Type 0 where
+pub record BodyRead {R : Type 0} (view : R → View) (b c : Bunser R) (Told : Option ℕ → View → View → Type 0) : Type 0 where
   pub reads : Told b.end (view b.read) (view c.read)
   pub same : c.end ≡ b.end

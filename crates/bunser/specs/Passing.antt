@@ -6,7 +6,8 @@ use Rattle.format.specs.declared.refusal.ReadError.{ReadError}
 use Rattle.format.specs.declared.refusal.ReadError.TheVariants.{End, Stop, Room, Short, Source, Magic, Byte, Negative, TooLong, NotText}
 use Rattle.bunser.specs.Outcome.{Outcome, got, bad}
 use Rattle.bunser.specs.Reads.{bytes_read}
-use Rattle.bunser.specs.Texts.{text_read}
+use Rattle.bunser.specs.declared.text.Unread.{Unread}
+use Rattle.bunser.specs.Texts.{checked, text_read}
 
 -- the whole pieces that come are taken
 abbrev pub whole_pieces : Bool → View → View
@@ -20,7 +21,7 @@ drawn_over lends (Source code) v = whole_pieces lends v
 drawn_over lends End v = v
 drawn_over lends Stop v = v
 drawn_over lends Room v = v
-drawn_over lends (Magic a b) v = v
+drawn_over lends (Magic bytes) v = v
 drawn_over lends (Byte kind b) v = v
 drawn_over lends Negative v = v
 drawn_over lends TooLong v = v
@@ -44,3 +45,6 @@ whole_read false lends end space n v = bytes_read lends end space n v
 
 unfoldable pub pass_read : Bool → Bool → Option ℕ → ℕ → View → Outcome ReadError Unit
 pass_read checked lends end n v = passing lends (whole_read checked lends end None n v)
+
+abbrev pub text_passed : Bool → Option ℕ → Unread → View → Outcome ReadError Unit
+text_passed lends end t v = pass_read (checked t.kind) lends end t.len v

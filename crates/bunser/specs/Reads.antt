@@ -3,6 +3,7 @@ use Rattle.std.specs.Prelude.{ℕ, ◌+◌, Bool, cond, ◌&&◌, List, [], leng
 use Rattle.read.specs.declared.Taken.{Taken}
 use Rattle.read.specs.declared.Taken.TheVariants.{Lent, Copied}
 use Rattle.read.specs.Reader.{View, past, held, advanced, discarded, lies, lent_part}
+use Rattle.format.specs.declared.tags.TheConstants.{FARTHEST}
 use Rattle.format.specs.Integers.{width_of, bytes_of, little_endian, twos_complement}
 use Rattle.format.specs.declared.width.Width.{Width}
 use Rattle.format.specs.declared.refusal.ReadError.{ReadError}
@@ -30,7 +31,7 @@ fronts (Some (Source code)) n v = replicate n 0
 fronts (Some End) n v = []
 fronts (Some Stop) n v = []
 fronts (Some Room) n v = []
-fronts (Some (Magic a b)) n v = []
+fronts (Some (Magic bytes)) n v = []
 fronts (Some (Byte kind b)) n v = []
 fronts (Some Negative) n v = []
 fronts (Some TooLong) n v = []
@@ -89,22 +90,26 @@ count_read lends end v = and_then (tagged_int_read lends end v) (λ z w. told_as
 
 -- ---- the header
 
-abbrev pub magical : ℕ → ℕ → Bool
-magical a b = a == 0 && b == 2
+abbrev pub magical : List ℕ → Bool
+magical bs = slice_index bs 0 == 0 && slice_index bs 1 == 2
 
 -- the magic is 00 02, and is taken either way
 abbrev pub is_magic : ℕ → List ℕ → View → Outcome Refusal Unit
-is_magic p bs v = cond (magical (slice_index bs 0) (slice_index bs 1)) (got tt v) (bad (at (Magic (slice_index bs 0) (slice_index bs 1)) p) v)
+is_magic p bs v = cond (magical bs) (got tt v) (bad (at (Magic bs) p) v)
 
 unfoldable pub magic_read : Bool → Option ℕ → View → Outcome Refusal Unit
 magic_read lends end v = and_then (placed v.count (array_read lends end 2 v)) (is_magic v.count)
 
+-- four bytes of flags, as one number
+abbrev pub flags_read : Bool → Option ℕ → View → Outcome ReadError ℕ
+flags_read lends end v = answer (asked end v None 4) v (little_endian (take 4 v.coming)) (advanced lends 4 v)
+
 unfoldable pub capabilities_read : Bool → Option ℕ → View → Outcome Refusal ℕ
-capabilities_read lends end v = placed v.count (answer (asked end v None 4) v (little_endian (take 4 v.coming)) (advanced lends 4 v))
+capabilities_read lends end v = placed v.count (flags_read lends end v)
 
 -- the body begins here, and ends by 2 ^ 60
 abbrev pub bounded : ℕ → ℕ → ℕ → View → Outcome Refusal Header
-bounded p caps n v = cond (past (Some 1152921504606846976) (v.count + n)) (bad (at TooLong p) v) (got (record { capabilities = caps; start = v.count; length = n }) v)
+bounded p caps n v = cond (past (Some FARTHEST) (v.count + n)) (bad (at TooLong p) v) (got (record { capabilities = caps; start = v.count; length = n }) v)
 
 unfoldable pub length_read : Bool → Option ℕ → ℕ → View → Outcome Refusal Header
 length_read lends end caps v = and_then (placed v.count (count_read lends end v)) (bounded v.count caps)

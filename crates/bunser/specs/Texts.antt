@@ -1,15 +1,16 @@
 -- Texts: bytes in one read that have to be UTF-8, and where the bytes lie afterwards.
-use Rattle.std.specs.Prelude.{ℕ, ◌+◌, Bool, true, false, cond, ◌||◌, List, length, take, drop, replicate, Some, None, Option, ◌==◌, nat_lt}
+use Rattle.std.specs.Prelude.{ℕ, Bool, true, false, cond, ◌||◌, List, take, replicate, Some, None, Option, ◌==◌}
 use Rattle.utf8.specs.Utf8.{utf8}
 use Rattle.read.specs.declared.Taken.{Taken}
 use Rattle.read.specs.declared.Taken.TheVariants.{Lent, Copied}
-use Rattle.read.specs.Reader.{View, discarded, lent_part}
+use Rattle.read.specs.Reader.{View, discarded, part_of, lent_part}
 use Rattle.format.specs.declared.refusal.ReadError.{ReadError}
 use Rattle.format.specs.declared.refusal.ReadError.TheVariants.{Byte, NotText}
 use Rattle.format.specs.declared.refusal.Kind.{Kind}
 use Rattle.format.specs.declared.refusal.Refusal.{Refusal}
 use Rattle.bunser.specs.declared.text.TextKind.{TextKind}
 use Rattle.bunser.specs.declared.text.TextKind.TheVariants as kind
+use Rattle.bunser.specs.declared.text.Span.{Span}
 use Rattle.bunser.specs.declared.text.Reference.{Reference}
 use Rattle.bunser.specs.declared.text.Reference.TheVariants as reference
 use Rattle.bunser.specs.Outcome.{Outcome, got, bad, and_then, at, placed}
@@ -56,19 +57,21 @@ key_length_read lends end kind v = and_then (placed v.count (peek_read end v)) (
 
 -- ---- where the bytes lie
 
--- so many of these bytes from a place on, if they are there
-abbrev pub part_of : List ℕ → ℕ → ℕ → Option (List ℕ)
-part_of xs p n = cond (nat_lt (length xs) (p + n)) None (Some (take n (drop p xs)))
-
 -- as a part of the input or of the text buffer
-abbrev pub spanned : Taken → ℕ → List ℕ → List ℕ → Option (List ℕ)
-spanned (Lent p) n input buf = part_of input p n
-spanned Copied n input buf = part_of buf 0 n
+abbrev spanned_at : Taken → ℕ → List ℕ → List ℕ → Option (List ℕ)
+spanned_at (Lent p) n input buf = part_of input p n
+spanned_at Copied n input buf = part_of buf 0 n
+
+abbrev pub spanned : Span → List ℕ → List ℕ → Option (List ℕ)
+spanned s input buf = spanned_at s.taken s.len input buf
 
 -- as a part of what the reader keeps or of the text buffer
-abbrev pub referred : Bool → View → Taken → ℕ → List ℕ → Option (List ℕ)
-referred lends v (Lent p) n buf = lent_part lends v p n
-referred lends v Copied n buf = part_of buf 0 n
+abbrev pub referred_at : Bool → View → Taken → ℕ → List ℕ → Option (List ℕ)
+referred_at lends v (Lent p) n buf = lent_part lends v p n
+referred_at lends v Copied n buf = part_of buf 0 n
+
+abbrev pub referred : Bool → View → Span → List ℕ → Option (List ℕ)
+referred lends v s buf = referred_at lends v s.taken s.len buf
 
 abbrev pub is_lent : Taken → Bool
 is_lent (Lent p) = true

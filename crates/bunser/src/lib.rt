@@ -1,15 +1,16 @@
 //! Numbers, texts and the header of a PDU, over any reader.
 #![tactic(auto)]
 
-ghost use Rattle.std.specs.Prelude.{◌≡◌, ◌+◌, ◌-◌, ◌*◌, ◌<◌, ◌≤◌, ◌++◌, length, take, drop, IfOk, Some, None};
-ghost use Rattle.read.specs.Reader.{past, room, put, discarded};
-ghost use Rattle.bunser.specs.Outcome.{asked, placed_result, Tells, TellsAt, Reads};
-ghost use Rattle.bunser.specs.Reads.{peek_read, bytes_read, fronts, lent_or, array_read, int_read, real_read, int_width, tagged_int_read, count_of, count_read, magic_read, capabilities_read, length_read, header_read, end_of};
+ghost use Rattle.std.specs.Prelude.{◌≡◌, ◌+◌, ◌≤◌, IfOk, Some, None};
+ghost use Rattle.read.specs.Reader.{past, allowed, room, put, discarded};
+ghost use Rattle.format.specs.declared.refusal.ReadError.TheVariants.{End};
+ghost use Rattle.bunser.specs.Outcome.{asked, placed_result, Tells, TellsAt, BodyRead};
+ghost use Rattle.bunser.specs.Reads.{peek_read, bytes_read, fronts, lent_or, array_read, int_read, real_read, int_width, tagged_int_read, count_of, count_read, magical, magic_read, flags_read, capabilities_read, length_read, header_read, end_of};
 
 use format::refusal::{Kind, ReadError, Refusal};
 use format::tags::{FARTHEST, MAGIC};
 use format::width::Width;
-use read::{DeRead, Taken, passes};
+use read::{DeRead, Taken, allow, passes};
 
 pub mod passing;
 pub mod text;
@@ -57,6 +58,13 @@ fn count_of(value: i64) -> Result<usize, ReadError>
     usize::try_from(value).map_err(|_| ReadError::Negative)
 }
 
+fn is_magic(bytes: [u8; 2]) -> bool
+    ensures { result ≡ magical bytes }
+{
+    bytes == MAGIC
+}
+
+// A value and no closure: the read stands where it is made, and only its refusal gets a place.
 // What a read that begins at this place has come to.
 fn placed<T>(read: Result<T, ReadError>, place: usize) -> Result<T, Refusal>
     ensures { result ≡ placed_result place read }
@@ -86,37 +94,41 @@ impl<R: DeRead> Bunser<R> {
         self.read.read_count()
     }
 
+    // A read of n bytes may not pass the declared end.
+    fn allow(&self, n: usize) -> Result<(), ReadError>
+        ensures { result ≡ allowed (past self.now.end ((R.DeRead.view self.now.read).count + n)) End }
+    {
+        allow(self.end, self.read.read_count(), n, ReadError::End)
+    }
+
     /// Shows the next byte.
     pub fn peek(&mut self) -> Result<u8, ReadError>
-        ensures { Reads R.DeRead.view self.old self.new (λ end v. Tells (peek_read end v) result) }
+        ensures { BodyRead R.DeRead.view self.old self.new (λ end v. Tells (peek_read end v) result) }
     {
-        if passes(self.end, self.read.read_count(), 1) {
-            return Err(ReadError::End);
-        }
+        self.allow(1)?;
         Ok(self.read.peek()?)
     }
 
     /// Takes the byte that was shown.
     pub fn discard(&mut self)
-        ensures { Reads R.DeRead.view self.old self.new (λ end v w. w ≡ discarded R.DeRead.lends v) }
+        ensures { BodyRead R.DeRead.view self.old self.new (λ end v w. w ≡ discarded R.DeRead.lends v) }
     {
         self.read.discard();
     }
 
+    // The request and the room are two things, as in `next_bytes`.
     /// Takes n bytes in one read.
     pub fn read_bytes(&mut self, n: usize, buf: &mut [u8]) -> Result<Taken, ReadError>
-        ensures reads { Reads R.DeRead.view self.old self.new (λ end v. Tells (bytes_read R.DeRead.lends end (room R.DeRead.lends buf.old) n v) result) }
+        ensures reads { BodyRead R.DeRead.view self.old self.new (λ end v. Tells (bytes_read R.DeRead.lends end (room R.DeRead.lends buf.old) n v) result) }
         ensures puts { buf.new ≡ put R.DeRead.lends (fronts (asked self.old.end (R.DeRead.view self.old.read) (room R.DeRead.lends buf.old) n) n (R.DeRead.view self.old.read)) buf.old }
     {
-        if passes(self.end, self.read.read_count(), n) {
-            return Err(ReadError::End);
-        }
+        self.allow(n)?;
         Ok(self.read.next_bytes(n, buf)?)
     }
 
     // N bytes in one read. What a lending reader keeps is copied.
     fn read_array<const N: usize>(&mut self) -> Result<[u8; N], ReadError>
-        ensures { Reads R.DeRead.view self.old self.new (λ end v. Tells (array_read R.DeRead.lends end N v) result) }
+        ensures { BodyRead R.DeRead.view self.old self.new (λ end v. Tells (array_read R.DeRead.lends end N v) result) }
     {
         let mut bytes = [0u8; N];
         let taken = self.read_bytes(N, &mut bytes)?;
@@ -126,7 +138,7 @@ impl<R: DeRead> Bunser<R> {
 
     /// The integer whose tag was taken, in one read.
     pub fn next_int(&mut self, width: Width) -> Result<i64, ReadError>
-        ensures { Reads R.DeRead.view self.old self.new (λ end v. Tells (int_read R.DeRead.lends end width v) result) }
+        ensures { BodyRead R.DeRead.view self.old self.new (λ end v. Tells (int_read R.DeRead.lends end width v) result) }
     {
         Ok(match width {
             Width::W8 => i64::from(i8::from_le_bytes(self.read_array()?)),
@@ -138,14 +150,14 @@ impl<R: DeRead> Bunser<R> {
 
     /// The real whose tag was taken, in one read: its eight bytes as one number.
     pub fn next_real(&mut self) -> Result<u64, ReadError>
-        ensures { Reads R.DeRead.view self.old self.new (λ end v. Tells (real_read R.DeRead.lends end v) result) }
+        ensures { BodyRead R.DeRead.view self.old self.new (λ end v. Tells (real_read R.DeRead.lends end v) result) }
     {
         Ok(u64::from_le_bytes(self.read_array()?))
     }
 
     /// The next integer, of any width. The tag is taken once it is known to begin one.
     pub fn check_next_int(&mut self) -> Result<i64, ReadError>
-        ensures { Reads R.DeRead.view self.old self.new (λ end v. Tells (tagged_int_read R.DeRead.lends end v) result) }
+        ensures { BodyRead R.DeRead.view self.old self.new (λ end v. Tells (tagged_int_read R.DeRead.lends end v) result) }
     {
         let tag = self.peek()?;
         let width = int_width(tag)?;
@@ -155,7 +167,7 @@ impl<R: DeRead> Bunser<R> {
 
     /// The next integer as a count or a length, which is not negative.
     pub fn next_count(&mut self) -> Result<usize, ReadError>
-        ensures { Reads R.DeRead.view self.old self.new (λ end v. Tells (count_read R.DeRead.lends end v) result) }
+        ensures { BodyRead R.DeRead.view self.old self.new (λ end v. Tells (count_read R.DeRead.lends end v) result) }
     {
         let value = self.check_next_int()?;
         count_of(value)
@@ -163,30 +175,37 @@ impl<R: DeRead> Bunser<R> {
 
     // The two bytes with which every PDU begins.
     fn read_magic(&mut self) -> Result<(), Refusal>
-        ensures { Reads R.DeRead.view self.old self.new (λ end v. TellsAt (magic_read R.DeRead.lends end v) result) }
+        ensures { BodyRead R.DeRead.view self.old self.new (λ end v. TellsAt (magic_read R.DeRead.lends end v) result) }
     {
         let place = self.read_count();
-        let [first, second] = placed(self.read_array::<2>(), place)?;
-        if [first, second] != MAGIC {
-            return Err(ReadError::Magic(first, second).at(place));
+        let bytes = placed(self.read_array(), place)?;
+        if !is_magic(bytes) {
+            return Err(ReadError::Magic(bytes).at(place));
         }
         Ok(())
     }
 
+    // Four bytes of flags as one number.
+    fn read_flags(&mut self) -> Result<u32, ReadError>
+        ensures { BodyRead R.DeRead.view self.old self.new (λ end v. Tells (flags_read R.DeRead.lends end v) result) }
+    {
+        Ok(u32::from_le_bytes(self.read_array()?))
+    }
+
+    #[tactic(auto, unfolding(crate::specs::Reads::capabilities_read))]
     fn read_capabilities(&mut self) -> Result<u32, Refusal>
-        ensures { Reads R.DeRead.view self.old self.new (λ end v. TellsAt (capabilities_read R.DeRead.lends end v) result) }
+        ensures { BodyRead R.DeRead.view self.old self.new (λ end v. TellsAt (capabilities_read R.DeRead.lends end v) result) }
     {
         let place = self.read_count();
-        let bytes = placed(self.read_array(), place)?;
-        Ok(u32::from_le_bytes(bytes))
+        placed(self.read_flags(), place)
     }
 
     // The length of the body, which begins behind it.
     fn read_length(&mut self, capabilities: u32) -> Result<Header, Refusal>
-        ensures { Reads R.DeRead.view self.old self.new (λ end v. TellsAt (length_read R.DeRead.lends end capabilities v) result) }
+        ensures { BodyRead R.DeRead.view self.old self.new (λ end v. TellsAt (length_read R.DeRead.lends end capabilities v) result) }
     {
         let place = self.read_count();
-        let length = placed(self.next_count(), place)?;
+        let length = self.placed_count()?;
         let start = self.read_count();
         if passes(Some(FARTHEST), start, length) {
             return Err(ReadError::TooLong.at(place));
@@ -202,7 +221,7 @@ impl<R: DeRead> Bunser<R> {
     fn read_header(&mut self) -> Result<Header, Refusal>
         requires { self.old.end ≡ None }
         ensures reads { TellsAt (header_read R.DeRead.lends (R.DeRead.view self.old.read)) result (R.DeRead.view self.new.read) }
-        ensures bounds { IfOk result (λ h. h.start + h.length ≤ 1152921504606846976) }
+        ensures bounds { IfOk result (λ h. h.start + h.length ≤ FARTHEST) }
         ensures same { self.new.end ≡ None }
     {
         self.read_magic()?;

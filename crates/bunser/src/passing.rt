@@ -2,8 +2,8 @@
 ghost use Rattle.std.specs.Prelude.{◌≡◌, ◌+◌, true, false, []};
 ghost use Rattle.utf8.specs.Pieces.{await, complete};
 ghost use Rattle.read.specs.Reader.{past, room};
-ghost use Rattle.bunser.specs.Outcome.{Tells, Reads};
-ghost use Rattle.bunser.specs.Passing.{verdict_of, whole_read, pass_read};
+ghost use Rattle.bunser.specs.Outcome.{Tells, BodyRead};
+ghost use Rattle.bunser.specs.Passing.{verdict_of, whole_read, text_passed};
 ghost use Rattle.bunser.specs.Texts.{checked};
 
 use super::Bunser;
@@ -30,7 +30,7 @@ impl<R: DeRead> Bunser<R> {
         requires copies { R.DeRead.lends ≡ false }
         requires ends { past self.old.end ((R.DeRead.view self.old.read).count + text.len) ≡ false }
         requires stops { past (R.DeRead.view self.old.read).stop ((R.DeRead.view self.old.read).count + text.len) ≡ false }
-        ensures { Reads R.DeRead.view self.old self.new (λ end v. Tells (pass_read (checked text.kind) R.DeRead.lends end text.len v) result) }
+        ensures { BodyRead R.DeRead.view self.old self.new (λ end v. Tells (text_passed R.DeRead.lends end text v) result) }
     {
         let mut piece = [0u8; PIECE];
         let mut awaited = Awaited::Character;
@@ -45,20 +45,22 @@ impl<R: DeRead> Bunser<R> {
 
     // A text in one read without a buffer, in which a reader that copies has no room for it.
     fn take_whole(&mut self, text: Unread) -> Result<Taken, ReadError>
-        ensures { Reads R.DeRead.view self.old self.new (λ end v. Tells (whole_read (checked text.kind) R.DeRead.lends end (room R.DeRead.lends []) text.len v) result) }
+        ensures { BodyRead R.DeRead.view self.old self.new (λ end v. Tells (whole_read (checked text.kind) R.DeRead.lends end (room R.DeRead.lends []) text.len v) result) }
     {
-        let mut none = [0u8; 0];
+        // An `if` and no closure: each of the two borrows all of the reader.
         if text.kind.is_checked() {
-            self.next_text(text.len, &mut none)
+            self.next_text(text.len, &mut [])
         } else {
-            self.read_bytes(text.len, &mut none)
+            self.read_bytes(text.len, &mut [])
         }
     }
 
     /// Passes a text over: in one read where the reader lends, else in pieces.
     pub fn pass_text(&mut self, text: Unread) -> Result<(), ReadError>
-        ensures { Reads R.DeRead.view self.old self.new (λ end v. Tells (pass_read (checked text.kind) R.DeRead.lends end text.len v) result) }
+        ensures { BodyRead R.DeRead.view self.old self.new (λ end v. Tells (text_passed R.DeRead.lends end text v) result) }
     {
+        // One `match` in the other: three arms were tried, and the proof did not close, since in the last
+        // the error is not known to be another than `Room`.
         match self.take_whole(text) {
             Ok(_) => Ok(()),
             Err(error) => match error {

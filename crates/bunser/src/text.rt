@@ -4,13 +4,13 @@ ghost use Rattle.utf8.specs.Utf8.{utf8};
 ghost use Rattle.read.specs.declared.Taken.TheVariants as taken_as;
 ghost use Rattle.read.specs.Reader.{room, put};
 ghost use Rattle.format.specs.declared.refusal.ReadError.TheVariants.{Room};
-ghost use Rattle.bunser.specs.Outcome.{at, asked, Tells, TellsAt, Reads};
-ghost use Rattle.bunser.specs.Texts.{checked, begins_key, placed_count, key_length_read, text_read, text_fronts, part_of, spanned, referred, is_lent, bytes_of, is_borrowed, is_text};
+ghost use Rattle.bunser.specs.Outcome.{at, asked, Tells, TellsAt, BodyRead};
+ghost use Rattle.bunser.specs.Texts.{checked, begins_key, placed_count, key_length_read, text_read, text_fronts, spanned, referred, is_lent, bytes_of, is_borrowed, is_text};
 
 use super::{Bunser, placed};
 use format::refusal::{Kind, ReadError, Refusal};
 use format::tags::Tag;
-use read::{DeRead, Taken};
+use read::{DeRead, Taken, part_of};
 use utf8::is_utf8;
 
 /// What a text is, whose tag and length were taken.
@@ -81,13 +81,6 @@ fn begins_key(tag: u8) -> bool
     matches!(Tag::try_from(tag), Ok(Tag::ByteString | Tag::Utf8String))
 }
 
-// So many bytes from a place on, if they are there.
-fn part_of(bytes: &[u8], place: usize, n: usize) -> Option<&[u8]>
-    ensures { MatchOption result (part_of bytes.now place n ≡ None) (λ s. part_of bytes.now place n ≡ Some s.now) }
-{
-    bytes.get(place..)?.get(..n)
-}
-
 // A text that is refused does not stay in the buffer.
 fn wipe(span: Span, buf: &mut [u8])
     requires { span.taken ≡ taken_as.Copied → span.len ≤ length buf.old }
@@ -105,9 +98,10 @@ impl<R: DeRead> Bunser<R> {
         span: Span,
         buf: &'c [u8],
     ) -> Result<Reference<'b, 'c>, ReadError>
-        ensures { MatchResult result (λ x. (referred R.DeRead.lends (R.DeRead.view self.now.read) span.taken span.len buf.now ≡ Some (bytes_of x)) × (is_borrowed x ≡ is_lent span.taken)) (λ e. (referred R.DeRead.lends (R.DeRead.view self.now.read) span.taken span.len buf.now ≡ None) × (e ≡ Room)) }
+        ensures { MatchResult result (λ x. (referred R.DeRead.lends (R.DeRead.view self.now.read) span buf.now ≡ Some (bytes_of x)) × (is_borrowed x ≡ is_lent span.taken)) (λ e. (referred R.DeRead.lends (R.DeRead.view self.now.read) span buf.now ≡ None) × (e ≡ Room)) }
     {
         let n = span.len;
+        // Each arm has a `?` of its own: with one behind the `match` the check did not prove the borrows.
         match span.taken {
             Taken::Lent(place) => {
                 let part = self.read.kept_part(place, n).ok_or(ReadError::Room)?;
@@ -122,7 +116,7 @@ impl<R: DeRead> Bunser<R> {
 
     /// The bytes of a text, as a part of the input or of the text buffer.
     pub fn part<'r>(&self, span: Span, input: &'r [u8], buf: &'r [u8]) -> Result<&'r [u8], Refusal>
-        ensures { MatchResult result (λ s. spanned span.taken span.len input.now buf.now ≡ Some s.now) (λ f. (spanned span.taken span.len input.now buf.now ≡ None) × (f ≡ at Room (R.DeRead.view self.now.read).count)) }
+        ensures { MatchResult result (λ s. spanned span input.now buf.now ≡ Some s.now) (λ f. (spanned span input.now buf.now ≡ None) × (f ≡ at Room (R.DeRead.view self.now.read).count)) }
     {
         let (bytes, place) = match span.taken {
             Taken::Lent(place) => (input, place),
@@ -133,7 +127,7 @@ impl<R: DeRead> Bunser<R> {
 
     /// The next integer as a count; a refusal is placed at its tag.
     pub fn placed_count(&mut self) -> Result<usize, Refusal>
-        ensures { Reads R.DeRead.view self.old self.new (λ end v. TellsAt (placed_count R.DeRead.lends end v) result) }
+        ensures { BodyRead R.DeRead.view self.old self.new (λ end v. TellsAt (placed_count R.DeRead.lends end v) result) }
     {
         let place = self.read_count();
         placed(self.next_count(), place)
@@ -141,7 +135,7 @@ impl<R: DeRead> Bunser<R> {
 
     /// The length of the key that comes next, whose tag is taken once it is known to begin a key.
     pub fn key_len(&mut self, kind: Kind) -> Result<usize, Refusal>
-        ensures { Reads R.DeRead.view self.old self.new (λ end v. TellsAt (key_length_read R.DeRead.lends end kind v) result) }
+        ensures { BodyRead R.DeRead.view self.old self.new (λ end v. TellsAt (key_length_read R.DeRead.lends end kind v) result) }
     {
         let place = self.read_count();
         let tag = placed(self.peek(), place)?;
@@ -154,15 +148,16 @@ impl<R: DeRead> Bunser<R> {
 
     // Whether the bytes that were taken are UTF-8.
     fn is_text(&self, span: Span, buf: &[u8]) -> bool
-        ensures { result ≡ is_text (referred R.DeRead.lends (R.DeRead.view self.now.read) span.taken span.len buf.now) }
+        ensures { result ≡ is_text (referred R.DeRead.lends (R.DeRead.view self.now.read) span buf.now) }
     {
         self.reference(span, buf)
             .is_ok_and(|reference| reference.is_utf8())
     }
 
+    // The request and the room are two things, as in `next_bytes`.
     /// Takes a text of n bytes in one read. It has to be UTF-8, and is taken either way.
     pub fn next_text(&mut self, n: usize, buf: &mut [u8]) -> Result<Taken, ReadError>
-        ensures reads { Reads R.DeRead.view self.old self.new (λ end v. Tells (text_read R.DeRead.lends end (room R.DeRead.lends buf.old) n v) result) }
+        ensures reads { BodyRead R.DeRead.view self.old self.new (λ end v. Tells (text_read R.DeRead.lends end (room R.DeRead.lends buf.old) n v) result) }
         ensures puts { buf.new ≡ put R.DeRead.lends (text_fronts (asked self.old.end (R.DeRead.view self.old.read) (room R.DeRead.lends buf.old) n) (utf8 (take n (R.DeRead.view self.old.read).coming)) n (R.DeRead.view self.old.read)) buf.old }
     {
         let taken = self.read_bytes(n, buf)?;

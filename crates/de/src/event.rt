@@ -24,6 +24,8 @@ pub enum Event {
 /// A call was refused. The decoder tells the refusal with its place and its cause.
 #[derive(Clone, Copy, PartialEq, Eq, Debug)]
 pub struct Refused {
+    // A number and not the refusal, which is many times as large and which each call would hand out,
+    // nor one more enum of its sixteen names.
     /// The number by which the documents name the refusal.
     pub number: u8,
 }

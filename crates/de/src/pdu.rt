@@ -1,5 +1,7 @@
 use bunser::Header;
 
+// Not a `Header`, since a token is asked about these two numbers alone, nor a part of it, where
+// each of its three numbers would need another name.
 /// Where the body of a PDU begins and how long it is.
 #[derive(Clone, Copy, PartialEq, Eq, Debug)]
 pub struct Extent {

@@ -10,7 +10,7 @@ use Rattle.format.specs.declared.refusal.Layer.TheVariants as layer
 abbrev pub read_number : ReadError → ℕ
 read_number Short = 3
 read_number (Source code) = 4
-read_number (Magic a b) = 5
+read_number (Magic bytes) = 5
 read_number (Byte kind b) = 6
 read_number Negative = 7
 read_number TooLong = 8
@@ -32,7 +32,7 @@ number_of (Length expected count) = 16
 abbrev pub read_layer : ReadError → Layer
 read_layer Short = layer.Reader
 read_layer (Source code) = layer.Source
-read_layer (Magic a b) = layer.Decoder
+read_layer (Magic bytes) = layer.Decoder
 read_layer (Byte kind b) = layer.Decoder
 read_layer Negative = layer.Decoder
 read_layer TooLong = layer.Decoder
@@ -54,7 +54,7 @@ layer_of (Length expected count) = layer.Decoder
 abbrev pub read_latching : ReadError → Bool
 read_latching Short = true
 read_latching (Source code) = true
-read_latching (Magic a b) = true
+read_latching (Magic bytes) = true
 read_latching (Byte kind b) = true
 read_latching Negative = true
 read_latching TooLong = true

@@ -22,3 +22,19 @@ tag_of b =
     (cond (b == 0x0c) (Ok Skip)
     (cond (b == 0x0d) (Ok Utf8String)
     (Err (record { 0 = b })))))))))))))))
+
+abbrev pub byte_of : Tag → ℕ
+byte_of Array = 0x00
+byte_of Object = 0x01
+byte_of ByteString = 0x02
+byte_of (Int W8) = 0x03
+byte_of (Int W16) = 0x04
+byte_of (Int W32) = 0x05
+byte_of (Int W64) = 0x06
+byte_of Real = 0x07
+byte_of True = 0x08
+byte_of False = 0x09
+byte_of Null = 0x0a
+byte_of Template = 0x0b
+byte_of Skip = 0x0c
+byte_of Utf8String = 0x0d

@@ -4,6 +4,7 @@ ghost use Rattle.format.specs.Numbers.{number_of, read_number, layer_of, latchin
 ghost use Rattle.format.specs.declared.refusal.Cause.TheVariants.{Read};
 
 use read::Fault;
+use source::SourceFault;
 
 /// What was to begin where a byte was found that cannot begin it.
 #[derive(Clone, Copy, PartialEq, Eq, Debug)]
@@ -15,6 +16,7 @@ pub enum Kind {
     TemplateKey,
 }
 
+// The four of a reader's fault stand among the others, so that a refusal has one name and not three.
 /// Why a read is refused.
 #[derive(Clone, Copy, PartialEq, Eq, Debug)]
 pub enum ReadError {
@@ -26,10 +28,10 @@ pub enum ReadError {
     Room,
     /// The data end before the read does.
     Short,
-    /// The source has a fault, with this code.
-    Source(u16),
+    /// The source has this fault.
+    Source(SourceFault),
     /// These two bytes do not begin a PDU.
-    Magic(u8, u8),
+    Magic([u8; 2]),
     /// This byte cannot begin such an item.
     Byte(Kind, u8),
     /// A count or a length is negative.
@@ -57,8 +59,8 @@ pub enum Cause {
     NoKeys,
     /// Not all events have passed.
     Unfinished,
-    /// The body ends elsewhere than declared: the end expected, and the count.
-    Length(usize, usize),
+    /// The body ends at this count, and not at the end expected.
+    Length { expected: usize, count: usize },
 }
 
 /// The part of the program that refuses.
@@ -77,6 +79,7 @@ pub struct Refusal {
 }
 
 impl Refusal {
+    // A number and no enum: the cause is the enum, and this is what the documents call it.
     /// The number by which the documents name this refusal.
     pub fn number(&self) -> u8
         ensures { result ≡ number_of self.now.cause }
@@ -89,7 +92,7 @@ impl Refusal {
             Cause::KeyRoom => 11,
             Cause::NoKeys => 12,
             Cause::Unfinished => 15,
-            Cause::Length(_, _) => 16,
+            Cause::Length { .. } => 16,
         }
     }
 
@@ -116,6 +119,7 @@ impl Refusal {
 }
 
 impl ReadError {
+    // A number and no enum: the error is the enum, and this is what the documents call it.
     /// The number by which the documents name this refusal.
     pub fn number(self) -> u8
         ensures { result ≡ read_number self }
@@ -123,7 +127,7 @@ impl ReadError {
         match self {
             ReadError::Short => 3,
             ReadError::Source(_) => 4,
-            ReadError::Magic(_, _) => 5,
+            ReadError::Magic(_) => 5,
             ReadError::Byte(_, _) => 6,
             ReadError::Negative => 7,
             ReadError::TooLong => 8,
@@ -152,7 +156,7 @@ impl From<Fault> for ReadError {
             Fault::Stop => ReadError::Stop,
             Fault::Room => ReadError::Room,
             Fault::Short => ReadError::Short,
-            Fault::Source(code) => ReadError::Source(code),
+            Fault::Source(fault) => ReadError::Source(fault),
         }
     }
 }

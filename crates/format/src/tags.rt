@@ -1,6 +1,6 @@
 //! The byte with which each item of BSER begins.
 ghost use Rattle.std.specs.Prelude.{◌≡◌};
-ghost use Rattle.format.specs.Tags.{tag_of};
+ghost use Rattle.format.specs.Tags.{tag_of, byte_of};
 
 use super::width::Width;
 
@@ -47,6 +47,29 @@ impl TryFrom<u8> for Tag {
             0x0d => Tag::Utf8String,
             _ => return Err(NoTag(byte)),
         })
+    }
+}
+
+impl From<Tag> for u8 {
+    ghost from_gives = { λ tag b. b ≡ byte_of tag };
+
+    fn from(tag: Tag) -> u8 {
+        match tag {
+            Tag::Array => 0x00,
+            Tag::Object => 0x01,
+            Tag::ByteString => 0x02,
+            Tag::Int(Width::W8) => 0x03,
+            Tag::Int(Width::W16) => 0x04,
+            Tag::Int(Width::W32) => 0x05,
+            Tag::Int(Width::W64) => 0x06,
+            Tag::Real => 0x07,
+            Tag::True => 0x08,
+            Tag::False => 0x09,
+            Tag::Null => 0x0a,
+            Tag::Template => 0x0b,
+            Tag::Skip => 0x0c,
+            Tag::Utf8String => 0x0d,
+        }
     }
 }
 

@@ -31,11 +31,12 @@ impl fmt::Display for ReadError {
             ReadError::Stop => f.write_str("the data run past the largest place that can be read"),
             ReadError::Room => f.write_str("the buffer for text is too short"),
             ReadError::Short => f.write_str("the file ends too early"),
-            ReadError::Source(code) => write!(
+            ReadError::Source(fault) => write!(
                 f,
-                "the data could not be fetched: the source reports fault {code}"
+                "the data could not be fetched: the source reports fault {}",
+                fault.code()
             ),
-            ReadError::Magic(a, b) => write!(
+            ReadError::Magic([a, b]) => write!(
                 f,
                 "this is not a table: it should begin with the bytes 00 02 and begins with {a:02x} {b:02x}"
             ),
@@ -59,14 +60,14 @@ impl fmt::Display for Cause {
                 "the call came out of turn: no table is open, or one is open already",
             ),
             Cause::Token => f.write_str("this table is not the one that is open"),
-            Cause::Read(error) => write!(f, "{error}"),
+            Cause::Read(error) => error.fmt(f),
             Cause::Depth => f.write_str("the values are nested more than 128 deep"),
             Cause::KeyRoom => f.write_str(
                 "there are more column names than the device has room for",
             ),
             Cause::NoKeys => f.write_str("a list of rows has no columns"),
             Cause::Unfinished => f.write_str("the table was closed before all of it was read"),
-            Cause::Length(expected, count) => write!(
+            Cause::Length { expected, count } => write!(
                 f,
                 "the table should end at byte {expected} and ends at byte {count}"
             ),

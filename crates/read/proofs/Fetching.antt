@@ -2,7 +2,7 @@
 use Rattle.std.proofs.Common.{◌≡◌, ℕ, ◌+◌, ◌<◌, ◌≤◌, Bool, true, false, ltb, List, ◌++◌, length, take, drop, replicate, is_some, is_err, option_to_list, Some, None, Err, Option, sym, refl, ap, subst, arith, length-take}
 use lib.ListN.{length-replicate}
 use Rattle.std.proofs.lemmas.Bool.{true≢false, ltb-true, lt-ltb, le-ltb}
-use Rattle.source.specs.declared.SourceFault.{SourceFault}
+use Rattle.source.specs.declared.fault.SourceFault.{SourceFault}
 use Rattle.source.specs.Feed.{Feed, after, fronted}
 use Rattle.read.specs.declared.Fault.{Fault}
 use Rattle.read.specs.Reader.{View, past, thinned, Spent, shortfall, Leaves, wiped, NextBytes}

@@ -1,9 +1,9 @@
 -- What a reader means, and what each of its calls does to that meaning.
 use Rattle.std.specs.Prelude.{◌≡◌, ℕ, ◌+◌, ◌≤◌, min, Bool, true, false, cond, List, [], ◌∷◌, ◌++◌, length, take, drop, replicate, Some, None, Ok, Err, Option, Result, ◌==◌, nat_lt, slice_index}
 use Rattle.source.specs.Bytes.{Octets}
-use Rattle.source.specs.declared.SourceFault.{SourceFault}
-use Rattle.source.specs.declared.FillError.{FillError}
-use Rattle.source.specs.declared.FillError.TheVariants as fill
+use Rattle.source.specs.declared.fault.SourceFault.{SourceFault}
+use Rattle.source.specs.declared.fault.FillError.{FillError}
+use Rattle.source.specs.declared.fault.FillError.TheVariants as fill
 use Rattle.source.specs.Feed.{Coded, fronted, unfilled}
 use Rattle.read.specs.declared.Fault.{Fault}
 use Rattle.read.specs.declared.Fault.TheVariants.{Stop, Room, Short, Source}
@@ -37,6 +37,11 @@ abbrev pub past : Option ℕ → ℕ → Bool
 past None n = false
 past (Some s) n = nat_lt s n
 
+-- what a read is told that may pass a stop
+abbrev pub allowed : {E : Type 0} → Bool → E → Result Unit E
+allowed true e = Err e
+allowed false e = Ok tt
+
 -- the room that bytes are written to: a reader that lends writes none
 abbrev pub room : Bool → List ℕ → Option ℕ
 room true buf = None
@@ -50,7 +55,7 @@ cramped (Some r) n = nat_lt r n
 -- how a buffer that was not filled is told
 abbrev pub fault_of : FillError → Fault
 fault_of fill.End = Short
-fault_of (fill.Fault f) = Source f.0
+fault_of (fill.Fault f) = Source f
 
 -- too few bytes come before this ending
 abbrev pub shortfall : Option SourceFault → Fault
@@ -142,9 +147,13 @@ NextBytes lends v n buf r w buf' = BytesBy (refusal v (room lends buf) n) lends 
 abbrev pub kept_at : View → ℕ → Option ℕ
 kept_at v p = cond (nat_lt p (length v.kept)) (Some (slice_index v.kept p)) None
 
+-- so many of these bytes from a place on, if they are there
+abbrev pub part_of : List ℕ → ℕ → ℕ → Option (List ℕ)
+part_of xs p n = cond (nat_lt (length xs) (p + n)) None (Some (take n (drop p xs)))
+
 -- so many kept bytes from a place on, of a reader that lends
 abbrev pub lent_part : Bool → View → ℕ → ℕ → Option (List ℕ)
-lent_part true v p n = cond (nat_lt (length v.kept) (p + n)) None (Some (take n (drop p v.kept)))
+lent_part true v p n = part_of v.kept p n
 lent_part false v p n = None
 
 -- ---- the fence

@@ -1,8 +1,9 @@
 ghost use Rattle.std.specs.Prelude.{◌≡◌, ◌+◌};
-ghost use Rattle.read.specs.Reader.{past, fenced};
+ghost use Rattle.read.specs.declared.Fault.TheVariants.{Stop};
+ghost use Rattle.read.specs.Reader.{past, allowed, fenced};
 ghost use Rattle.read.specs.Sound.{fence_sound};
 
-use super::{DeRead, Fault, Taken, passes};
+use super::{DeRead, Fault, Taken, allow};
 
 /// A reader with a stop of its own over any reader: the smaller of the two stops holds, and all
 /// else is as below.
@@ -27,11 +28,11 @@ impl<R: DeRead> Fence<R> {
         below
     }
 
-    // Whether a read of n bytes passes the fence.
-    fn bars(&self, n: usize) -> bool
-        ensures { result ≡ past (Some self.now.stop) ((R.DeRead.view self.now.below).count + n) }
+    // A read of n bytes may not pass the fence.
+    fn allow(&self, n: usize) -> Result<(), Fault>
+        ensures { result ≡ allowed (past (Some self.now.stop) ((R.DeRead.view self.now.below).count + n)) Stop }
     {
-        passes(Some(self.stop), self.below.read_count(), n)
+        allow(Some(self.stop), self.below.read_count(), n, Fault::Stop)
     }
 }
 
@@ -42,17 +43,8 @@ impl<R: DeRead> DeRead for Fence<R> {
 
     ghost sound = { λ s. fence_sound R.DeRead.lends s.stop (R.DeRead.view s.below) (R.DeRead.sound s.below) };
 
-    fn next(&mut self) -> Result<u8, Fault> {
-        if self.bars(1) {
-            return Err(Fault::Stop);
-        }
-        self.below.next()
-    }
-
     fn peek(&mut self) -> Result<u8, Fault> {
-        if self.bars(1) {
-            return Err(Fault::Stop);
-        }
+        self.allow(1)?;
         self.below.peek()
     }
 
@@ -65,14 +57,8 @@ impl<R: DeRead> DeRead for Fence<R> {
     }
 
     fn next_bytes(&mut self, n: usize, buf: &mut [u8]) -> Result<Taken, Fault> {
-        if self.bars(n) {
-            return Err(Fault::Stop);
-        }
+        self.allow(n)?;
         self.below.next_bytes(n, buf)
-    }
-
-    fn kept(&self, place: usize) -> Option<u8> {
-        self.below.kept(place)
     }
 
     fn kept_part(&self, place: usize, n: usize) -> Option<&[u8]> {

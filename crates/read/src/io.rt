@@ -1,13 +1,14 @@
 ghost use Rattle.std.specs.Prelude.{◌≡◌, ◌+◌, ◌<◌, ◌≤◌, false, length, option_to_list, None};
 ghost use Rattle.source.specs.Bytes.{Octets};
+ghost use Rattle.read.specs.declared.io.TheConstants.{STOP};
 ghost use Rattle.read.specs.Held.{Fetch, FetchOne};
 ghost use Rattle.read.specs.Sound.{io_view, io_sound};
 
-use super::{DeRead, Fault, Taken, passes};
+use super::{DeRead, Fault, Taken, allow};
 use source::{Source, read_exact};
 
 // 2^60 + 16: a body that ends by 2^60 and the header before it stay below.
-const STOP: usize = 1_152_921_504_606_846_992;
+const STOP: usize = (1 << 60) + 16;
 
 /// Reads any source and copies its bytes. It stops at a count of 2^60 + 16.
 #[derive(Drop)]
@@ -17,7 +18,7 @@ pub struct IoRead<S: Source> {
     // The byte that was peeked and not taken yet.
     peeked: Option<u8>,
     ghost octet: { Octets (option_to_list peeked) },
-    ghost before: { read_count + length (option_to_list peeked) ≤ 1152921504606846992 },
+    ghost before: { read_count + length (option_to_list peeked) ≤ STOP },
 }
 
 // The source's next byte.
@@ -63,22 +64,8 @@ impl<S: Source> DeRead for IoRead<S> {
 
     ghost sound = { λ s. io_sound (S.Source.feed s.source) s.peeked s.read_count (S.Source.sound s.source) s.octet };
 
-    fn next(&mut self) -> Result<u8, Fault> {
-        if passes(Some(STOP), self.read_count, 1) {
-            return Err(Fault::Stop);
-        }
-        let b = match self.peeked.take() {
-            Some(b) => b,
-            None => fetch_one(&mut self.source)?,
-        };
-        self.read_count += 1;
-        Ok(b)
-    }
-
     fn peek(&mut self) -> Result<u8, Fault> {
-        if passes(Some(STOP), self.read_count, 1) {
-            return Err(Fault::Stop);
-        }
+        allow(Some(STOP), self.read_count, 1, Fault::Stop)?;
         if let Some(b) = self.peeked {
             return Ok(b);
         }
@@ -98,9 +85,8 @@ impl<S: Source> DeRead for IoRead<S> {
     }
 
     fn next_bytes(&mut self, n: usize, buf: &mut [u8]) -> Result<Taken, Fault> {
-        if passes(Some(STOP), self.read_count, n) {
-            return Err(Fault::Stop);
-        }
+        allow(Some(STOP), self.read_count, n, Fault::Stop)?;
+        // A test and no `get_mut`, whose contract does not say what the buffer ends as.
         if n > buf.len() {
             return Err(Fault::Room);
         }
@@ -111,10 +97,6 @@ impl<S: Source> DeRead for IoRead<S> {
         self.peeked = None;
         self.read_count += n;
         Ok(Taken::Copied)
-    }
-
-    fn kept(&self, place: usize) -> Option<u8> {
-        None
     }
 
     fn kept_part(&self, place: usize, n: usize) -> Option<&[u8]> {

@@ -2,9 +2,9 @@
 #![tactic(auto)]
 
 ghost use Rattle.std.specs.Prelude.{◌≡◌, ◌+◌, Bool, Some, None, MatchOption};
-ghost use Rattle.read.specs.Reader.{View, Sound, past, fault_of, Peek, Next, discarded, NextBytes, kept_at, lent_part};
+ghost use Rattle.read.specs.Reader.{View, Sound, past, fault_of, Peek, Next, discarded, NextBytes, kept_at, part_of, lent_part, allowed};
 
-use source::FillError;
+use source::{FillError, SourceFault};
 
 pub mod fence;
 pub mod io;
@@ -19,8 +19,8 @@ pub enum Fault {
     Room,
     /// Too few bytes come before a clean end.
     Short,
-    /// Too few bytes come before the source's fault, which has this code.
-    Source(u16),
+    /// Too few bytes come before the source's fault.
+    Source(SourceFault),
 }
 
 impl From<FillError> for Fault {
@@ -29,7 +29,7 @@ impl From<FillError> for Fault {
     fn from(e: FillError) -> Fault {
         match e {
             FillError::End => Fault::Short,
-            FillError::Fault(fault) => Fault::Source(fault.0),
+            FillError::Fault(fault) => Fault::Source(fault),
         }
     }
 }
@@ -41,11 +41,30 @@ pub fn passes(stop: Option<usize>, at: usize, n: usize) -> bool
     stop.is_some_and(|stop| stop.checked_sub(at).is_none_or(|left| n > left))
 }
 
+/// So many bytes from a place on, if they are there.
+pub fn part_of(bytes: &[u8], place: usize, n: usize) -> Option<&[u8]>
+    ensures { MatchOption result (part_of bytes.now place n ≡ None) (λ s. part_of bytes.now place n ≡ Some s.now) }
+{
+    bytes.get(place..)?.get(..n)
+}
+
+/// This error where a read of n bytes at this count passes a stop.
+pub fn allow<E: Drop>(stop: Option<usize>, at: usize, n: usize, error: E) -> Result<(), E>
+    ensures { result ≡ allowed (past stop (at + n)) error }
+{
+    if passes(stop, at, n) {
+        Err(error)
+    } else {
+        Ok(())
+    }
+}
+
 /// Where bytes lie that were taken.
 #[derive(Clone, Copy, PartialEq, Eq, Debug)]
 pub enum Taken {
     /// They are lent: kept by the reader from this place on.
     Lent(usize),
+    // No `Option` of a place: its `None` would say that nothing was taken.
     /// They are copied to the front of the buffer.
     Copied,
 }
@@ -55,6 +74,7 @@ pub enum Taken {
 pub trait DeRead {
     ghost view: { Self → View };
 
+    // A fact of the kind and not a part of the view, where each call would have to say that it stays.
     /// Whether this kind of reader lends what it takes or copies it.
     ghost lends: { Bool };
 
@@ -62,7 +82,12 @@ pub trait DeRead {
 
     /// Takes the next byte, the peeked one where there is one.
     fn next(&mut self) -> Result<u8, Fault>
-        ensures { Next lends (view self.old) result (view self.new) };
+        ensures { Next lends (view self.old) result (view self.new) }
+    {
+        let b = self.peek()?;
+        self.discard();
+        Ok(b)
+    }
 
     /// Shows the next byte, which stays to come.
     fn peek(&mut self) -> Result<u8, Fault>
@@ -76,13 +101,17 @@ pub trait DeRead {
     fn discard(&mut self)
         ensures { view self.new ≡ discarded lends (view self.old) };
 
+    // The request and the room for it are two things: a refusal is about their difference.
     /// Takes n bytes, the peeked one first.
     fn next_bytes(&mut self, n: usize, buf: &mut [u8]) -> Result<Taken, Fault>
         ensures { NextBytes lends (view self.old) n buf.old result (view self.new) buf.new };
 
     /// The kept byte at a place, counted from the reader's start.
     fn kept(&self, place: usize) -> Option<u8>
-        ensures { result ≡ kept_at (view self.now) place };
+        ensures { result ≡ kept_at (view self.now) place }
+    {
+        self.kept_part(place, 1)?.first().copied()
+    }
 
     /// So many kept bytes from a place on, of a reader that lends.
     fn kept_part(&self, place: usize, n: usize) -> Option<&[u8]>

@@ -1,13 +1,15 @@
 ghost use Rattle.std.specs.Prelude.{◌≡◌, ◌+◌, ◌<◌, ◌≤◌, true, false, length};
 ghost use Rattle.source.specs.Bytes.{Octets};
 
-use super::{DeRead, Fault, Taken};
+use super::{DeRead, Fault, Taken, part_of};
 
 /// Reads a slice and lends its bytes. It has no stop.
 #[derive(Clone, Copy)]
 pub struct SliceRead<'a> {
     slice: &'a [u8],
     index: usize,
+    // A flag and no `Option` of the byte: the byte stands in the slice, and its double would have
+    // to be kept the same.
     peeked: bool,
     ghost octets: { Octets slice.now },
     ghost within: { index ≤ length slice.now },
@@ -61,12 +63,6 @@ impl<'a> DeRead for SliceRead<'a> {
 
     ghost sound = { slice_sound };
 
-    fn next(&mut self) -> Result<u8, Fault> {
-        let b = *self.coming().first().ok_or(Fault::Short)?;
-        self.advance(1);
-        Ok(b)
-    }
-
     fn peek(&mut self) -> Result<u8, Fault> {
         let b = *self.coming().first().ok_or(Fault::Short)?;
         self.peeked = true;
@@ -92,12 +88,8 @@ impl<'a> DeRead for SliceRead<'a> {
         Ok(Taken::Lent(place))
     }
 
-    fn kept(&self, place: usize) -> Option<u8> {
-        self.taken().get(place).copied()
-    }
-
     fn kept_part(&self, place: usize, n: usize) -> Option<&[u8]> {
-        self.taken().get(place..)?.get(..n)
+        part_of(self.taken(), place, n)
     }
 
     fn lends(&self) -> bool {

@@ -1,10 +1,10 @@
 -- What one read tells, and what a loop that fills a buffer keeps.
-use Rattle.std.proofs.Common.{◌≡◌, ℕ, ◌+◌, ◌-◌, ◌<◌, ◌≤◌, List, ◌++◌, length, take, drop, None, Ok, Option, sym, refl, ap, ◌∙◌, subst, append_assoc, append-nil, arith, length-drop, length-take, drop-drop, take-add}
+use Rattle.std.proofs.Common.{◌≡◌, ℕ, ◌+◌, ◌-◌, ◌<◌, ◌≤◌, List, ◌++◌, length, take, drop, None, Ok, Option, refl, ap, append_assoc, append-nil, arith, length-drop, length-take, drop-drop, take-add}
 use borrow.Rule.Slice.PartMut.{put_mid}
 use Rattle.std.proofs.lemmas.Bool.{ne_eqb}
 use Rattle.std.proofs.lemmas.Bool.Decides.{nat_tests}
 use Rattle.std.proofs.lemmas.List.{take_at, drop_at, drop_all, take_rest, drop-append-le, take-append-drop}
-use Rattle.source.specs.declared.SourceFault.{SourceFault}
+use Rattle.source.specs.declared.fault.SourceFault.{SourceFault}
 use Rattle.source.specs.Feed.{Feed, giving, after, fronted, Read}
 
 -- a portion of n bytes came
@@ -35,38 +35,25 @@ module _ (f f1 : Feed) (old buf : List ℕ) (at : ℕ) (i : Filling f old at f1 
 
   -- the part that is handed to the source
   pub wanted : take (length buf - at) (drop at buf) ≡ drop at old
-  wanted = take_rest buf at ∙ ap (drop at) i.front ∙ drop_at (take at f.bytes) (drop at old) at front_long
+  wanted = rw (take_rest buf at, i.front, drop_at (take at f.bytes) (drop at old) at front_long) refl
 
   -- the whole buffer once the part is back
   back : (part : List ℕ) → put_mid at (length buf - at) buf part ≡ take at f.bytes ++ part
   back part =
       let short : length (drop at buf) ≤ length buf - at = rw length-drop (omega arith) in
-      ap (λ l. take at buf ++ (part ++ l)) (drop_all (length buf - at) (drop at buf) short)
-      ∙ ap (λ l. take at buf ++ l) (append-nil part)
-      ∙ ap (λ l. l ++ part) (ap (take at) i.front ∙ take_at (take at f.bytes) (drop at old) at front_long)
+      rw (drop_all (length buf - at) (drop at buf) short, append-nil, i.front, take_at (take at f.bytes) (drop at old) at front_long) refl
 
   pub fill_more : (n : ℕ) (g : Feed) (part : List ℕ) → Came f1 (take (length buf - at) (drop at buf)) n g part → Filling f old (at + n) g (put_mid at (length buf - at) buf part)
   fill_more n g part h =
-      let came_from : f1.bytes ≡ drop at f.bytes = ap (λ x. x.bytes) i.left in
-      let there : n ≤ length (drop at f.bytes) = subst (λ l. n ≤ length l) came_from h.there in
-      let room : n ≤ length (drop at old) = subst (λ l. n ≤ length l) wanted h.room in
+      let c : Came (after at f) (drop at old) n g part = rw (i.left, wanted) at h in
+      let long : length (take n (drop at f.bytes)) ≡ n = let e = c.there in simp length-take (omega arith) in
       let within = i.within in
       let enough = i.enough in
-      let long : length (take n (drop at f.bytes)) ≡ n = simp length-take (omega arith) in
-      let put : part ≡ take n (drop at f.bytes) ++ drop n (drop at old) =
-      h.put
-      ∙ ap (λ l. fronted (take n l) (take (length buf - at) (drop at buf))) came_from
-      ∙ ap (fronted (take n (drop at f.bytes))) wanted
-      ∙ ap (λ k. take n (drop at f.bytes) ++ drop k (drop at old)) long in
       record {
-        within = let a : n ≤ length old - at = subst (λ k. n ≤ k) (length-drop at old) room in omega arith;
-        enough = let a : n ≤ length f.bytes - at = subst (λ k. n ≤ k) (length-drop at f.bytes) there in omega arith;
-        left = h.left ∙ ap (after n) i.left ∙ ap (λ l. record { bytes = l; ending = f.ending }) (drop-drop n at f.bytes);
-        front = back part
-            ∙ ap (λ l. take at f.bytes ++ l) put
-            ∙ sym (append_assoc (take at f.bytes) (take n (drop at f.bytes)) (drop n (drop at old)))
-            ∙ ap (λ l. l ++ drop n (drop at old)) (sym (take-add at n f.bytes))
-            ∙ ap (λ l. take (at + n) f.bytes ++ l) (drop-drop n at old);
+        within = let a : n ≤ length old - at = simp length-drop at c.room in omega arith;
+        enough = let a : n ≤ length f.bytes - at = simp length-drop at c.there in omega arith;
+        left = rw (c.left, drop-drop n at f.bytes) refl;
+        front = rw (back part, c.put, long, take-add, drop-drop n at old, append_assoc) refl;
       }
 
 -- A read into a buffer's front of m bytes from a slice, whatever ending comes behind the slice.

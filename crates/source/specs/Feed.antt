@@ -1,19 +1,20 @@
 -- What a source means, and what a read of it does.
 use Rattle.std.specs.Prelude.{◌≡◌, ℕ, ◌<◌, ◌≤◌, min, Bool, true, false, cond, List, [], ◌++◌, length, take, drop, Some, None, Ok, Err, Option, Result, ◌==◌, nat_le}
+use Rattle.std.specs.Int.NonZero.{non_zero_u16_get}
 use Rattle.std.specs.Option.{ForSome}
 use Rattle.source.specs.Bytes.{Octets}
-use Rattle.source.specs.declared.SourceFault.{SourceFault}
-use Rattle.source.specs.declared.FillError.{FillError}
-use Rattle.source.specs.declared.FillError.TheVariants.{End, Fault}
+use Rattle.source.specs.declared.fault.SourceFault.{SourceFault}
+use Rattle.source.specs.declared.fault.FillError.{FillError}
+use Rattle.source.specs.declared.fault.FillError.TheVariants.{End, Fault}
 
 -- the bytes still to come, and how they end: with the source's fault, or cleanly
 pub record Feed : Type 0 where
   pub bytes : List ℕ
   pub ending : Option SourceFault
 
--- a fault's code is a number of 16 bits
+-- a fault's code is a number of 16 bits; that it is not 0 stands in its type
 abbrev pub Coded : Option SourceFault → Type 0
-Coded e = ForSome e (λ f. f.0 < 65536)
+Coded e = ForSome e (λ f. non_zero_u16_get f.0 < 65536)
 
 -- what holds of every feed
 pub record Sound (f : Feed) : Type 0 where

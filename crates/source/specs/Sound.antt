@@ -2,7 +2,7 @@
 use Rattle.std.specs.Prelude.{ℕ, zero, suc, ◌+◌, List, [], ◌∷◌, ◌++◌, take, drop, Some, None, Option}
 use Rattle.std.proofs.Common.{arith, get_or-drop}
 use Rattle.source.specs.Bytes.{Octets}
-use Rattle.source.specs.declared.SourceFault.{SourceFault}
+use Rattle.source.specs.declared.fault.SourceFault.{SourceFault}
 use Rattle.source.specs.Feed.{Feed, Coded, Sound, behind, chained}
 
 pub octets_none : Octets []

@@ -1,5 +1,5 @@
-ghost use Rattle.std.specs.Prelude.{◌≡◌};
-ghost use Rattle.source.specs.Feed.{chained};
+ghost use Rattle.std.specs.Prelude.{◌≡◌, [], None};
+ghost use Rattle.source.specs.Feed.{Read, chained, giving};
 ghost use Rattle.source.specs.Sound.{chain_sound};
 
 use super::{Source, SourceFault};
@@ -25,7 +25,10 @@ impl<P: Source, Q: Source> Source for Chain<P, Q> {
 
     ghost sound = { λ s. chain_sound (P.Source.feed s.first) (Q.Source.feed s.second) (P.Source.sound s.first) (Q.Source.sound s.second) };
 
-    fn read(&mut self, buf: &mut [u8]) -> Result<usize, SourceFault> {
+    fn read(&mut self, buf: &mut [u8]) -> Result<usize, SourceFault>
+        ensures reads { Read (chained (P.Source.feed self.old.first) (Q.Source.feed self.old.second)) buf.old result (chained (P.Source.feed self.new.first) (Q.Source.feed self.new.second)) buf.new }
+        ensures same { (P.Source.feed self.old.first ≡ giving [] None → ⊥) → self.new.second ≡ self.old.second }
+    {
         if buf.is_empty() {
             return Ok(0);
         }

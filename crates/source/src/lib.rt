@@ -3,32 +3,13 @@
 
 ghost use Rattle.std.specs.Prelude.{◌≡◌, length};
 ghost use Rattle.source.specs.Feed.{Feed, Sound, Read, Fill};
-ghost use Rattle.source.specs.declared.FillError.TheVariants.{Fault};
 
 pub mod chain;
+pub mod fault;
 pub mod piece;
 pub mod slice;
 
-/// A source's fault, with its code.
-#[derive(Clone, Copy, PartialEq, Eq, Debug)]
-pub struct SourceFault(pub u16);
-
-/// Why a buffer was not filled.
-#[derive(Clone, Copy, PartialEq, Eq, Debug)]
-pub enum FillError {
-    /// The source came to its clean end first.
-    End,
-    /// The source has a fault.
-    Fault(SourceFault),
-}
-
-impl From<SourceFault> for FillError {
-    ghost from_gives = { λ fault e. e ≡ Fault fault };
-
-    fn from(fault: SourceFault) -> FillError {
-        FillError::Fault(fault)
-    }
-}
+pub use fault::{FillError, SourceFault};
 
 /// Stands in the place of `std::io::Read`. Its meaning is the bytes still to come and the ending.
 pub trait Source {
@@ -36,6 +17,7 @@ pub trait Source {
 
     ghost sound: { (s : Self) → Sound (feed s) };
 
+    // 0 and no `Option` where nothing is given, as `std::io::Read` has it.
     /// Reads some bytes to the buffer's front and says how many: 0 into an empty buffer and at a
     /// clean end. A source that ends in a fault tells it each time.
     fn read(&mut self, buf: &mut [u8]) -> Result<usize, SourceFault>
@@ -47,6 +29,8 @@ pub trait Source {
 pub fn read_exact<S: Source>(source: &mut S, buf: &mut [u8]) -> Result<(), FillError>
     ensures { Fill (S.Source.feed source.old) buf.old result (S.Source.feed source.new) buf.new }
 {
+    // An index, as in Rattle's own `read_exact`. A `&mut` to what is left was tried, and the proof did
+    // not close: no invariant ties it to the whole buffer. A recursion would take stack for each read.
     let mut filled = 0;
     while filled < buf.len() {
         match source.read(&mut buf[filled..])? {

@@ -2,7 +2,7 @@
 use Rattle.std.proofs.Common.{◌≡◌, ℕ, ◌+◌, ◌≤◌, Bool, true, false, cond, eqb, ltb, List, ◌++◌, length, get_or, take, drop, Some, None, Ok, Err, Option, Result, sym, refl, ap, ◌∙◌, subst, arith}
 use Rattle.std.proofs.lemmas.Bool.{le-ltb}
 use Rattle.read.specs.declared.Fault.TheVariants as fault
-use Rattle.source.specs.declared.SourceFault.{SourceFault}
+use Rattle.source.specs.declared.fault.SourceFault.{SourceFault}
 use Rattle.source.specs.Feed.{giving, chained}
 use Rattle.read.specs.declared.slice.SliceRead.{SliceRead}
 use Rattle.read.specs.Slice.{slice_view}
@@ -158,9 +158,9 @@ module _ (most : ℕ) (small : most ≤ 100) where
       (λ n x y b. bounded_same v.count w.count caps n x y a.count b)
 
 magic_same : (most p q : ℕ) (bs : List ℕ) (v w : View) → p ≡ q → Alike most v w → Same {E = Refusal} {A = Unit {0}} most (is_magic p bs v) (is_magic q bs w)
-magic_same most p q bs v w e a = subst (λ k. Same {E = Refusal} {A = Unit {0}} most (is_magic p bs v) (is_magic k bs w)) e (go (magical (get_or bs 0 0) (get_or bs 1 0)))
+magic_same most p q bs v w e a = subst (λ k. Same {E = Refusal} {A = Unit {0}} most (is_magic p bs v) (is_magic k bs w)) e (go (magical bs))
   where
-    go : (b : Bool) → Same {E = Refusal} {A = Unit {0}} most (cond b (got tt v) (bad (at (Magic (get_or bs 0 0) (get_or bs 1 0)) p) v)) (cond b (got tt w) (bad (at (Magic (get_or bs 0 0) (get_or bs 1 0)) p) w))
+    go : (b : Bool) → Same {E = Refusal} {A = Unit {0}} most (cond b (got tt v) (bad (at (Magic bs) p) v)) (cond b (got tt w) (bad (at (Magic bs) p) w))
     go true = both_got a
     go false = both_bad
 

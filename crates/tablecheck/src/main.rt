@@ -61,12 +61,13 @@ impl Findings {
         self.size.saturating_sub(header.start)
     }
 
+    fn lacks(&self, header: &Header) -> bool {
+        self.there(header) < header.length
+    }
+
     // The header is accepted by both readers, and the body is there.
     fn good(&self) -> bool {
-        match &self.from_slice {
-            Ok(header) => self.agree() && self.there(header) >= header.length,
-            Err(_) => false,
-        }
+        self.agree() && self.from_slice.is_ok_and(|header| !self.lacks(&header))
     }
 }
 
@@ -78,11 +79,12 @@ impl fmt::Display for Findings {
                 writeln!(f, "  capabilities     {:08x}", header.capabilities)?;
                 writeln!(f, "  body starts at   byte {}", header.start)?;
                 writeln!(f, "  declared length  {} bytes", header.length)?;
-                if there < header.length {
-                    writeln!(f, "  bytes there      {there}: the file ends too early")?;
+                let note = if self.lacks(header) {
+                    ": the file ends too early"
                 } else {
-                    writeln!(f, "  bytes there      {there}")?;
-                }
+                    ""
+                };
+                writeln!(f, "  bytes there      {there}{note}")?;
             }
             Err(refusal) => writeln!(f, "  refused          {refusal}")?,
         }

@@ -7,6 +7,8 @@ ghost use Rattle.utf8.specs.Utf8.{utf8, utf8_after, within, first, announced, al
 
 pub mod pieces;
 
+use pieces::{Awaited, behind_first};
+
 // How many bytes a character has, by its first byte: 0 where none begins, so that an entry is one byte.
 const WIDTH: [u8; 256] = [
     1, 1, 1, 1, 1, 1, 1, 1, 1, 1, 1, 1, 1, 1, 1, 1, 1, 1, 1, 1, 1, 1, 1, 1, 1, 1, 1, 1, 1, 1, 1, 1,
@@ -47,12 +49,9 @@ fn may_follow(lead: u8, byte: u8) -> bool
     requires { IsSomeAnd (announced lead) (λ n. 1 < n) }
     ensures { result ≡ allows (first lead) byte }
 {
-    match lead {
-        0xe0 => matches!(byte, 0xa0..=0xbf),
-        0xed => matches!(byte, 0x80..=0x9f),
-        0xf0 => matches!(byte, 0x90..=0xbf),
-        0xf4 => matches!(byte, 0x80..=0x8f),
-        _ => continues(byte),
+    match behind_first(lead) {
+        Awaited::Range { low, high, .. } => (low..=high).contains(&byte),
+        _ => false,
     }
 }
 
@@ -82,6 +81,7 @@ fn behind_character(lead: u8, tail: &[u8]) -> Option<&[u8]>
     completes(lead, others).then_some(rest)
 }
 
+// Beside `Awaited`, which holds a state at each byte: the table wants one look-up for a character.
 /// Whether the bytes are well-formed UTF-8.
 #[tactic(auto, unfolding(crate::specs::Utf8::utf8))]
 pub fn is_utf8(s: &[u8]) -> bool

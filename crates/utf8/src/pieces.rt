@@ -15,7 +15,7 @@ pub enum Awaited {
 }
 
 // What follows the first byte of a character.
-fn behind_first(byte: u8) -> Awaited
+pub(crate) fn behind_first(byte: u8) -> Awaited
     ensures { await result ≡ first byte }
 {
     let (low, high, more) = match byte {
