@@ -1,10 +1,12 @@
-ghost use Rattle.std.specs.Prelude.{◌<◌};
+ghost use Rattle.std.specs.Prelude.{◌≡◌, ◌<◌};
+ghost use Rattle.std.specs.Int.NonZero.{non_zero_u16_get};
 
 use source::SourceFault;
 
 // The fault with this code.
-pub fn fault(code: u16) -> SourceFault
+pub(crate) fn fault(code: u16) -> SourceFault
     requires { 0 < code }
+    ensures { non_zero_u16_get result.0 ≡ code }
 {
     SourceFault::new(code).unwrap()
 }
