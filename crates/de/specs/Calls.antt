@@ -1,23 +1,23 @@
 -- What each of the four calls answers, and what the decoder holds then.
-use Rattle.std.specs.Prelude.{◌≡◌, ℕ, ◌+◌, ◌-◌, ◌*◌, ◌/◌, ◌<◌, ◌≤◌, min, Bool, true, false, cond, ◌&&◌, List, [], ◌∷◌, length, Some, None, Ok, Err, Option, Result, ◌==◌}
-use Rattle.read.specs.Reader.{View, advanced}
-use Rattle.format.specs.Numbers.{latching}
+use Rattle.std.specs.Prelude.{◌≡◌, ℕ, ◌+◌, ◌-◌, ◌<◌, ◌≤◌, min, Bool, true, false, cond, ◌&&◌, List, [], ◌∷◌, Some, None, Ok, Err, Option, Result, ◌==◌}
+use Rattle.read.specs.Reader.{View}
+use Rattle.format.specs.Numbers.{latching, number_of}
 use Rattle.format.specs.declared.refusal.ReadError.{ReadError}
-use Rattle.format.specs.declared.refusal.ReadError.TheVariants as error
 use Rattle.format.specs.declared.refusal.Cause.{Cause}
 use Rattle.format.specs.declared.refusal.Cause.TheVariants as cause
 use Rattle.format.specs.declared.refusal.Refusal.{Refusal}
 use Rattle.bunser.specs.declared.Header.{Header}
 use Rattle.bunser.specs.Outcome.{Outcome, got, bad}
 use Rattle.bunser.specs.Reads.{header_read}
-use Rattle.room.specs.Open.{Open, start, nesting}
+use Rattle.bunser.specs.Passing.{drawn_over}
+use Rattle.room.specs.Open.{Column, Open, start, nesting}
 use Rattle.de.specs.declared.event.Event.{Event}
 use Rattle.bunser.specs.declared.text.Unread.{Unread}
 use Rattle.de.specs.declared.event.Refused.{Refused}
 use Rattle.de.specs.declared.pdu.Extent.{Extent}
 use Rattle.de.specs.declared.pdu.PduInfo.{PduInfo}
 use Rattle.de.specs.declared.pdu.Closed.{Closed}
-use Rattle.de.specs.Steps.{Body, Out, gives, stops, refuse, counted, step, refused_of, Apart, puts}
+use Rattle.de.specs.Steps.{Body, Out, gives, stops, moved, refuse, counted, step, Apart, puts}
 
 pub record State : Type 0 where
   pub body : Body
@@ -26,14 +26,17 @@ pub record State : Type 0 where
   -- the PDU opened last, 0 and 0 before any
   pub last : Extent
   pub latched : Option Refusal
+  -- the refusal that was told last
+  pub refused : Option Refusal
 
 -- a decoder over this reader, of which nothing was asked
 abbrev pub fresh : View → State
 fresh v = record {
-  body = record { reader = v; end = None; opens = []; unread = None; events = 0; refused = None };
+  body = record { reader = v; end = None; opens = []; unread = None; events = 0 };
   pdu = None;
   last = record { start = 0; length = 0 };
   latched = None;
+  refused = None;
 }
 
 -- a result; a refusal that reads nothing; a refusal of a read
@@ -43,17 +46,20 @@ pub data Answered (A : Type 0) : Type 0 where
   cut : Refusal → State → Answered A
 
 abbrev pub in_body : State → Body → State
-in_body s b = record { body = b; pdu = s.pdu; last = s.last; latched = s.latched }
+in_body s b = record { body = b; pdu = s.pdu; last = s.last; latched = s.latched; refused = s.refused }
 
 abbrev pub latch_by : Refusal → Option Refusal → Option Refusal
 latch_by f o = cond (latching f.cause) (Some f) o
 
 abbrev pub latch : Refusal → State → State
-latch f s = record { body = s.body; pdu = s.pdu; last = s.last; latched = latch_by f s.latched }
+latch f s = record { body = s.body; pdu = s.pdu; last = s.last; latched = latch_by f s.latched; refused = s.refused }
 
 -- a refusal by the call itself is placed at the count
 abbrev pub here : Cause → State → Refusal
 here c s = refuse c s.body.reader.count
+
+abbrev pub refused_of : Refusal → Refused
+refused_of f = record { number = number_of f.cause }
 
 -- a latched refusal comes again before any question
 abbrev pub unless_latched : {A : Type 0} → Option Refusal → State → Answered A → Answered A
@@ -64,15 +70,16 @@ unless_latched None s m = m
 
 abbrev pub opened : State → Header → View → State
 opened s h v = record {
-  body = record { reader = v; end = Some (h.start + h.length); opens = start ∷ []; unread = None; events = 0; refused = s.body.refused };
+  body = record { reader = v; end = Some (h.start + h.length); opens = start ∷ []; unread = None; events = 0 };
   pdu = Some (record { start = h.start; length = h.length });
   last = record { start = h.start; length = h.length };
   latched = None;
+  refused = s.refused;
 }
 
 -- a refused header leaves no end
 abbrev pub unopened : State → View → State
-unopened s v = in_body s (record { reader = v; end = None; opens = s.body.opens; unread = s.body.unread; events = s.body.events; refused = s.body.refused })
+unopened s v = in_body s (record { reader = v; end = None; opens = s.body.opens; unread = s.body.unread; events = s.body.events })
 
 abbrev pub open_by : Outcome Refusal Header → State → Answered PduInfo
 open_by (got h v) s = gave (record { header = h }) (opened s h v)
@@ -109,60 +116,55 @@ next_puts None lends room s = turn_puts s.pdu lends room s
 
 -- ---- skip
 
--- a text that is passed is drawn in pieces of 64 bytes from a reader that copies: before a shortfall
--- the whole pieces that came are taken
-abbrev pub pieces : Bool → Option Unread → ReadError → View → View
-pieces true u e v = v
-pieces false None e v = v
-pieces false (Some u) error.Short v = advanced false (64 * (length v.coming / 64)) v
-pieces false (Some u) (error.Source code) v = advanced false (64 * (length v.coming / 64)) v
-pieces false (Some u) error.End v = v
-pieces false (Some u) error.Stop v = v
-pieces false (Some u) error.Room v = v
-pieces false (Some u) (error.Magic bytes) v = v
-pieces false (Some u) (error.Byte kind b) v = v
-pieces false (Some u) error.Negative v = v
-pieces false (Some u) error.TooLong v = v
-pieces false (Some u) error.NotText v = v
+-- a text that is passed is drawn in pieces from a reader that copies: before a shortfall the whole pieces that came are taken
+abbrev pub drawn_by : Bool → Option Unread → ReadError → View → View
+drawn_by lends None e v = v
+drawn_by lends (Some u) e v = drawn_over lends e v
 
-abbrev pub drawn_by : Bool → Cause → Body → View
-drawn_by lends cause.OutOfTurn b = b.reader
-drawn_by lends cause.Token b = b.reader
-drawn_by lends (cause.Read e) b = pieces lends b.unread e b.reader
-drawn_by lends cause.Depth b = b.reader
-drawn_by lends cause.KeyRoom b = b.reader
-drawn_by lends cause.NoKeys b = b.reader
-drawn_by lends cause.Unfinished b = b.reader
-drawn_by lends (cause.Length expected count) b = b.reader
+abbrev pub drawn_view : Bool → Cause → Body → View
+drawn_view lends cause.OutOfTurn b = b.reader
+drawn_view lends cause.Token b = b.reader
+drawn_view lends (cause.Read e) b = drawn_by lends b.unread e b.reader
+drawn_view lends cause.Depth b = b.reader
+drawn_view lends cause.KeyRoom b = b.reader
+drawn_view lends cause.NoKeys b = b.reader
+drawn_view lends cause.Unfinished b = b.reader
+drawn_view lends (cause.Length expected count) b = b.reader
 
 abbrev pub drawn : Bool → Refusal → Body → Body
-drawn lends f b = record { reader = drawn_by lends f.cause b; end = b.end; opens = b.opens; unread = b.unread; events = b.events; refused = b.refused }
+drawn lends f b = moved b (drawn_view lends f.cause b)
+
+-- a step by which an event passes and no text is kept
+abbrev pub Passes : Bool → Out → Result (Option Event) Refusal → Body → Type 0
+Passes lends (gives e b x) r c = (r ≡ Ok e) × (c ≡ b)
+Passes lends (stops f b x) r c = (r ≡ Err f) × Apart f (drawn lends f b) c
 
 -- events pass until no more is open than at first; so many have passed already
-pub data Skips (lends : Bool) (down : ℕ) : ℕ → Body → Result ℕ Refused → Body → Type 0 where
+pub data Skips (lends : Bool) (down : ℕ) : ℕ → Body → Result ℕ Refusal → Body → Type 0 where
   -- nothing more is to come
-  over : {n : ℕ} {b c t : Body} {r : Result ℕ Refused} {x : List ℕ} → step lends None b ≡ gives None c x → r ≡ Ok n → t ≡ c → Skips lends down n b r t
-  stuck : {n : ℕ} {b c t : Body} {r : Result ℕ Refused} {f : Refusal} {x : List ℕ} → step lends None b ≡ stops f c x → r ≡ Err (refused_of f) → Apart f (drawn lends f c) t → Skips lends down n b r t
-  last : {n : ℕ} {b c t : Body} {r : Result ℕ Refused} {e : Event} {x : List ℕ} → step lends None b ≡ gives (Some e) c x → nesting c.opens ≤ down → r ≡ Ok (counted n) → t ≡ c → Skips lends down n b r t
-  onward : {n m : ℕ} {b c t : Body} {r : Result ℕ Refused} {e : Event} {x : List ℕ} → step lends None b ≡ gives (Some e) c x → down < nesting c.opens → m ≡ counted n → Skips lends down m c r t → Skips lends down n b r t
+  over : {n : ℕ} {b c t : Body} {r : Result ℕ Refusal} {x : List ℕ} → step lends None b ≡ gives None c x → r ≡ Ok n → t ≡ c → Skips lends down n b r t
+  stuck : {n : ℕ} {b c t : Body} {r : Result ℕ Refusal} {f : Refusal} {x : List ℕ} → step lends None b ≡ stops f c x → r ≡ Err f → Apart f (drawn lends f c) t → Skips lends down n b r t
+  last : {n : ℕ} {b c t : Body} {r : Result ℕ Refusal} {e : Event} {x : List ℕ} → step lends None b ≡ gives (Some e) c x → nesting c.opens ≤ down → r ≡ Ok (counted n) → t ≡ c → Skips lends down n b r t
+  onward : {n m : ℕ} {b c t : Body} {r : Result ℕ Refusal} {e : Event} {x : List ℕ} → step lends None b ≡ gives (Some e) c x → down < nesting c.opens → m ≡ counted n → Skips lends down m c r t → Skips lends down n b r t
 
-abbrev pub Skip : Bool → Body → Result ℕ Refused → Body → Type 0
+abbrev pub Skip : Bool → Body → Result ℕ Refusal → Body → Type 0
 Skip lends b r t = Skips lends (nesting b.opens) 0 b r t
 
-abbrev pub latch_result : Result ℕ Refused → Option Refusal → Option Refusal → Option Refusal
-latch_result (Ok n) said o = o
-latch_result (Err e) None o = o
-latch_result (Err e) (Some f) o = latch_by f o
+-- the refusal is told, and nothing else changes
+abbrev pub telling : Refusal → State → State
+telling f s = record { body = s.body; pdu = s.pdu; last = s.last; latched = s.latched; refused = Some f }
+
+-- how a skip of the body is told
+abbrev pub SkipTold : Result ℕ Refusal → Result ℕ Refused → State → State → Type 0
+SkipTold (Ok n) r s t = (r ≡ Ok n) × (t.latched ≡ s.latched) × (t.refused ≡ s.refused)
+SkipTold (Err f) r s t = (r ≡ Err (refused_of f)) × (t.latched ≡ latch_by f s.latched) × (t.refused ≡ Some f)
 
 pub record Skipped (lends : Bool) (s : State) (r : Result ℕ Refused) (t : State) : Type 0 where
-  pub body : Skip lends s.body r t.body
+  pub outcome : Result ℕ Refusal
+  pub body : Skip lends s.body outcome t.body
+  pub told : SkipTold outcome r s t
   pub pdu : t.pdu ≡ s.pdu
   pub last : t.last ≡ s.last
-  pub latched : t.latched ≡ latch_result r t.body.refused s.latched
-
--- the refusal is told, and all else is as it was
-abbrev pub telling : Refusal → State → State
-telling f s = in_body s (record { reader = s.body.reader; end = s.body.end; opens = s.body.opens; unread = s.body.unread; events = s.body.events; refused = Some f })
 
 abbrev pub SkipTurn : Option Extent → Bool → State → Result ℕ Refused → State → Type 0
 SkipTurn None lends s r t = (r ≡ Err (refused_of (here cause.OutOfTurn s))) × (t ≡ telling (here cause.OutOfTurn s) s)
@@ -178,7 +180,7 @@ SkipCall lends s r t = SkipBy s.latched lends s r t
 -- ---- close
 
 -- all events have passed
-abbrev pub finished_by : Option Unread → List Open → Bool
+abbrev pub finished_by : Option Unread → List (Open Column) → Bool
 finished_by (Some u) o = false
 finished_by None [] = true
 finished_by None (x ∷ o) = false
@@ -188,7 +190,7 @@ finished b = finished_by b.unread b.opens
 
 -- the PDU is open no more
 abbrev pub shut : State → State
-shut s = record { body = s.body; pdu = None; last = s.last; latched = s.latched }
+shut s = record { body = s.body; pdu = None; last = s.last; latched = s.latched; refused = s.refused }
 
 abbrev pub refusing : {A : Type 0} → Refusal → State → Answered A
 refusing f s = told f (latch f s)
@@ -221,6 +223,7 @@ pub record Off (f : Refusal) (s t : State) : Type 0 where
   pub pdu : t.pdu ≡ s.pdu
   pub last : t.last ≡ s.last
   pub latched : t.latched ≡ s.latched
+  pub refused : t.refused ≡ Some f
 
 abbrev pub Meets : {A : Type 0} → Answered A → Result A Refused → State → Type 0
 Meets (gave a s) r t = (r ≡ Ok a) × (t ≡ s)

@@ -29,20 +29,20 @@ AsTold None a = ⊥
 
 abbrev pub OpenAnswer : Result PduInfo Refused → State → Answer → Type 0
 OpenAnswer (Ok p) t a = a ≡ answer.Opened p.header
-OpenAnswer (Err e) t a = AsTold t.body.refused a
+OpenAnswer (Err e) t a = AsTold t.refused a
 
 abbrev pub NextAnswer : Result (Option Event) Refused → State → Answer → Type 0
 NextAnswer (Ok (Some e)) t a = a ≡ answer.Gave e
 NextAnswer (Ok None) t a = a ≡ answer.Done
-NextAnswer (Err e) t a = AsTold t.body.refused a
+NextAnswer (Err e) t a = AsTold t.refused a
 
 abbrev pub SkipAnswer : Result ℕ Refused → State → Answer → Type 0
 SkipAnswer (Ok n) t a = a ≡ answer.Skipped n
-SkipAnswer (Err e) t a = AsTold t.body.refused a
+SkipAnswer (Err e) t a = AsTold t.refused a
 
 abbrev pub CloseAnswer : Result Closed Refused → State → Answer → Type 0
 CloseAnswer (Ok c) t a = a ≡ answer.Closed c
-CloseAnswer (Err e) t a = AsTold t.body.refused a
+CloseAnswer (Err e) t a = AsTold t.refused a
 
 pub record Made {A : Type 0} (does : Result A Refused → State → Type 0) (says : Result A Refused → State → Answer → Type 0) (a : Answer) (t : State) : Type 0 where
   pub result : Result A Refused

@@ -1,4 +1,4 @@
-use bunser::text::Span;
+use bunser::text::{Span, Unread};
 use format::width::Width;
 
 /// What `next` gives. A span says where the bytes lie.
@@ -19,6 +19,19 @@ pub enum Event {
     Null,
     /// A gap: there is no value under the key before it.
     Absent,
+}
+
+/// What comes next of a body, before the bytes of a text are read.
+#[derive(Clone, Copy, PartialEq, Eq, Debug)]
+pub enum Ahead {
+    /// Nothing more.
+    Nothing,
+    /// An event, which has passed.
+    Passed(Event),
+    /// A text, whose event has not passed.
+    Text(Unread),
+    /// The key of a column, whose event has not passed.
+    Column,
 }
 
 /// A call was refused. The decoder tells the refusal with its place and its cause.

@@ -8,20 +8,21 @@ pub data Column : Type 0 where
   lent : ℕ → ℕ → Column
   copied : List ℕ → Column
 
-pub data Open : Type 0 where
+-- what is open, by what is known of a column: where its key lies, or its name
+pub data Open (C : Type 0) : Type 0 where
   -- the one value of a body is to come
-  start : Open
+  start : Open C
   -- an array with so many values to come
-  items : ℕ → Open
+  items : ℕ → Open C
   -- an object with so many pairs to come, before a key; and the value of a key with so many pairs to come behind it
-  pairs field : ℕ → Open
+  pairs field : ℕ → Open C
   -- a template before a row: its columns, and so many rows to come
-  rows : List Column → ℕ → Open
+  rows : List C → ℕ → Open C
   -- in a row, before the key of a column and before its cell: the columns to come behind, all columns, and so many rows to come
-  row cell : List Column → List Column → ℕ → Open
+  row cell : List C → List C → ℕ → Open C
 
 -- what comes next
-abbrev pub due : List Open → Due
+abbrev pub due : {C : Type 0} → List (Open C) → Due
 due [] = Done
 due (start ∷ s) = Value
 due (items zero ∷ s) = ArrayEnd
@@ -38,7 +39,7 @@ due (cell l ks n ∷ s) = Cell
 -- ---- what changes
 
 -- a value has begun, and its place is taken
-abbrev pub filled : List Open → List Open
+abbrev pub filled : {C : Type 0} → List (Open C) → List (Open C)
 filled [] = []
 filled (start ∷ s) = s
 filled (items zero ∷ s) = items zero ∷ s
@@ -50,12 +51,12 @@ filled (row l ks n ∷ s) = row l ks n ∷ s
 filled (cell l ks n ∷ s) = row l ks n ∷ s
 
 -- the innermost has ended
-abbrev pub ended : List Open → List Open
+abbrev pub ended : {C : Type 0} → List (Open C) → List (Open C)
 ended [] = []
 ended (o ∷ s) = s
 
 -- the key of a pair has passed
-abbrev pub keyed : List Open → List Open
+abbrev pub keyed : {C : Type 0} → List (Open C) → List (Open C)
 keyed [] = []
 keyed (start ∷ s) = start ∷ s
 keyed (items n ∷ s) = items n ∷ s
@@ -67,7 +68,7 @@ keyed (row l ks n ∷ s) = row l ks n ∷ s
 keyed (cell l ks n ∷ s) = cell l ks n ∷ s
 
 -- a row begins, the key of a column passes, a row ends
-abbrev pub row_turned : List Open → List Open
+abbrev pub row_turned : {C : Type 0} → List (Open C) → List (Open C)
 row_turned [] = []
 row_turned (start ∷ s) = start ∷ s
 row_turned (items n ∷ s) = items n ∷ s
@@ -80,7 +81,7 @@ row_turned (row (k ∷ l) ks n ∷ s) = cell l ks n ∷ s
 row_turned (cell l ks n ∷ s) = cell l ks n ∷ s
 
 -- the column whose key comes next
-abbrev pub column : List Open → Column
+abbrev pub column : List (Open Column) → Column
 column [] = copied []
 column (start ∷ s) = copied []
 column (items n ∷ s) = copied []
@@ -94,7 +95,7 @@ column (cell l ks n ∷ s) = copied []
 -- ---- what is taken of the fixed memory
 
 -- the arrays, objects and templates that are open
-abbrev pub depth : List Open → ℕ
+abbrev pub depth : {C : Type 0} → List (Open C) → ℕ
 depth [] = 0
 depth (start ∷ s) = depth s
 depth (items n ∷ s) = suc (depth s)
@@ -105,7 +106,7 @@ depth (row l ks n ∷ s) = suc (depth s)
 depth (cell l ks n ∷ s) = suc (depth s)
 
 -- the arrays, objects, templates and rows that are open
-abbrev pub nesting : List Open → ℕ
+abbrev pub nesting : {C : Type 0} → List (Open C) → ℕ
 nesting [] = 0
 nesting (start ∷ s) = nesting s
 nesting (items n ∷ s) = suc (nesting s)
@@ -122,7 +123,7 @@ column_bytes (lent p n ∷ ks) = column_bytes ks
 column_bytes (copied bs ∷ ks) = length bs + column_bytes ks
 
 -- the keys and the key bytes that the open templates hold
-abbrev pub keys_held : List Open → ℕ
+abbrev pub keys_held : {C : Type 0} → List (Open C) → ℕ
 keys_held [] = 0
 keys_held (start ∷ s) = keys_held s
 keys_held (items n ∷ s) = keys_held s
@@ -132,12 +133,13 @@ keys_held (rows ks n ∷ s) = keys_held s + length ks
 keys_held (row l ks n ∷ s) = keys_held s + length ks
 keys_held (cell l ks n ∷ s) = keys_held s + length ks
 
-abbrev pub bytes_held : List Open → ℕ
-bytes_held [] = 0
-bytes_held (start ∷ s) = bytes_held s
-bytes_held (items n ∷ s) = bytes_held s
-bytes_held (pairs n ∷ s) = bytes_held s
-bytes_held (field n ∷ s) = bytes_held s
-bytes_held (rows ks n ∷ s) = bytes_held s + column_bytes ks
-bytes_held (row l ks n ∷ s) = bytes_held s + column_bytes ks
-bytes_held (cell l ks n ∷ s) = bytes_held s + column_bytes ks
+-- by how many bytes the columns of a template take
+abbrev pub bytes_held : {C : Type 0} → (List C → ℕ) → List (Open C) → ℕ
+bytes_held long [] = 0
+bytes_held long (start ∷ s) = bytes_held long s
+bytes_held long (items n ∷ s) = bytes_held long s
+bytes_held long (pairs n ∷ s) = bytes_held long s
+bytes_held long (field n ∷ s) = bytes_held long s
+bytes_held long (rows ks n ∷ s) = bytes_held long s + long ks
+bytes_held long (row l ks n ∷ s) = bytes_held long s + long ks
+bytes_held long (cell l ks n ∷ s) = bytes_held long s + long ks

@@ -3,19 +3,15 @@ use Rattle.std.proofs.Common.{◌≡◌, ℕ, zero, suc, ◌+◌, Bool, true, fa
 use Rattle.format.specs.declared.width.Width.{Width}
 use Rattle.values.specs.Values.{Value, null, yes_value, no_value, integer, real, bytes, text, Key, Event, array_begin, array_end, map_begin, map_end, key, an_integer, a_real, some_bytes, some_text, is_true, is_false, is_null, absent, encoding, count_encoding, key_encoding, keys_encoding, Formed, Fits, KeyFormed, KeysFormed}
 use Rattle.values.specs.Limits.{Limits, LevelFree, RoomForKeys, RoomForKeyBytes, RowsKeyed, key_bytes}
-use Rattle.room.specs.Open.{Column, lent, copied, Open}
-use Rattle.room.specs.Open as open_as
+use Rattle.room.specs.Open.{Column, lent, copied, Open, start, items, pairs, field, rows, row, cell, filled, depth, keys_held, bytes_held}
 use Rattle.bunser.specs.declared.text.TextKind.{TextKind}
 use Rattle.bunser.specs.declared.text.TextKind.TheVariants as kind
 use Rattle.bunser.specs.declared.text.Unread.{Unread}
 
 -- ---- what is open, with the names of the columns
 
-pub data Level : Type 0 where
-  start : Level
-  items pairs field : ℕ → Level
-  rows : List (List ℕ) → ℕ → Level
-  row cell : List (List ℕ) → List (List ℕ) → ℕ → Level
+abbrev pub Level : Type 0
+Level = Open (List ℕ)
 
 -- the name of a column, where this is the whole input
 abbrev pub named : List ℕ → Column → List ℕ
@@ -26,16 +22,16 @@ abbrev pub all_named : List ℕ → List Column → List (List ℕ)
 all_named input [] = []
 all_named input (k ∷ ks) = named input k ∷ all_named input ks
 
-abbrev pub level : List ℕ → Open → Level
-level input open_as.start = start
-level input (open_as.items n) = items n
-level input (open_as.pairs n) = pairs n
-level input (open_as.field n) = field n
-level input (open_as.rows ks n) = rows (all_named input ks) n
-level input (open_as.row l ks n) = row (all_named input l) (all_named input ks) n
-level input (open_as.cell l ks n) = cell (all_named input l) (all_named input ks) n
+abbrev pub level : List ℕ → Open Column → Level
+level input start = start
+level input (items n) = items n
+level input (pairs n) = pairs n
+level input (field n) = field n
+level input (rows ks n) = rows (all_named input ks) n
+level input (row l ks n) = row (all_named input l) (all_named input ks) n
+level input (cell l ks n) = cell (all_named input l) (all_named input ks) n
 
-abbrev pub levels : List ℕ → List Open → List Level
+abbrev pub levels : List ℕ → List (Open Column) → List Level
 levels input [] = []
 levels input (o ∷ s) = level input o ∷ levels input s
 
@@ -50,51 +46,19 @@ abbrev pub AllLie : Bool → List Column → Type 0
 AllLie lends [] = Unit {0}
 AllLie lends (k ∷ ks) = Lies lends k × AllLie lends ks
 
-abbrev pub Fit : Bool → List Open → Type 0
+abbrev pub Fit : Bool → List (Open Column) → Type 0
 Fit lends [] = Unit {0}
-Fit lends (open_as.start ∷ s) = Fit lends s
-Fit lends (open_as.items n ∷ s) = Fit lends s
-Fit lends (open_as.pairs n ∷ s) = Fit lends s
-Fit lends (open_as.field n ∷ s) = Fit lends s
-Fit lends (open_as.rows ks n ∷ s) = AllLie lends ks × Fit lends s
-Fit lends (open_as.row l ks n ∷ s) = AllLie lends l × AllLie lends ks × Fit lends s
-Fit lends (open_as.cell l ks n ∷ s) = AllLie lends l × AllLie lends ks × Fit lends s
-
--- ---- what is taken of the limits
-
-abbrev pub depth : List Level → ℕ
-depth [] = 0
-depth (start ∷ s) = depth s
-depth (items n ∷ s) = suc (depth s)
-depth (pairs n ∷ s) = suc (depth s)
-depth (field n ∷ s) = suc (depth s)
-depth (rows ks n ∷ s) = suc (depth s)
-depth (row l ks n ∷ s) = suc (depth s)
-depth (cell l ks n ∷ s) = suc (depth s)
+Fit lends (start ∷ s) = Fit lends s
+Fit lends (items n ∷ s) = Fit lends s
+Fit lends (pairs n ∷ s) = Fit lends s
+Fit lends (field n ∷ s) = Fit lends s
+Fit lends (rows ks n ∷ s) = AllLie lends ks × Fit lends s
+Fit lends (row l ks n ∷ s) = AllLie lends l × AllLie lends ks × Fit lends s
+Fit lends (cell l ks n ∷ s) = AllLie lends l × AllLie lends ks × Fit lends s
 
 abbrev pub names_long : List (List ℕ) → ℕ
 names_long [] = 0
 names_long (k ∷ ks) = length k + names_long ks
-
-abbrev pub keys_held : List Level → ℕ
-keys_held [] = 0
-keys_held (start ∷ s) = keys_held s
-keys_held (items n ∷ s) = keys_held s
-keys_held (pairs n ∷ s) = keys_held s
-keys_held (field n ∷ s) = keys_held s
-keys_held (rows ks n ∷ s) = keys_held s + length ks
-keys_held (row l ks n ∷ s) = keys_held s + length ks
-keys_held (cell l ks n ∷ s) = keys_held s + length ks
-
-abbrev pub bytes_held : List Level → ℕ
-bytes_held [] = 0
-bytes_held (start ∷ s) = bytes_held s
-bytes_held (items n ∷ s) = bytes_held s
-bytes_held (pairs n ∷ s) = bytes_held s
-bytes_held (field n ∷ s) = bytes_held s
-bytes_held (rows ks n ∷ s) = bytes_held s + names_long ks
-bytes_held (row l ks n ∷ s) = bytes_held s + names_long ks
-bytes_held (cell l ks n ∷ s) = bytes_held s + names_long ks
 
 -- ---- one event
 
@@ -109,18 +73,6 @@ Wants (field n ∷ s) = Unit {0}
 Wants (rows ks n ∷ s) = ⊥
 Wants (row l ks n ∷ s) = ⊥
 Wants (cell l ks n ∷ s) = Unit {0}
-
--- its place is taken
-abbrev pub filled : List Level → List Level
-filled [] = []
-filled (start ∷ s) = s
-filled (items zero ∷ s) = items zero ∷ s
-filled (items (suc n) ∷ s) = items n ∷ s
-filled (pairs n ∷ s) = pairs n ∷ s
-filled (field n ∷ s) = pairs n ∷ s
-filled (rows ks n ∷ s) = rows ks n ∷ s
-filled (row l ks n ∷ s) = row l ks n ∷ s
-filled (cell l ks n ∷ s) = row l ks n ∷ s
 
 -- a value that is one event
 pub data Plain : Value → Event → Type 0 where
@@ -143,7 +95,7 @@ pub record TemplateWithin (L : Limits) (s : List Level) (ks : List Key) (n : ℕ
   pub own_level : LevelFree L (depth s)
   pub list_level : LevelFree L (suc (depth s))
   pub few_keys : RoomForKeys L (keys_held s + length ks)
-  pub few_bytes : RoomForKeyBytes L (bytes_held s + key_bytes ks)
+  pub few_bytes : RoomForKeyBytes L (bytes_held names_long s + key_bytes ks)
   pub keyed : RowsKeyed L n (length ks)
 
 pub data Takes (L : Limits) : List Level → List ℕ → Event → List Level → Type 0 where

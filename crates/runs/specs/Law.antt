@@ -215,6 +215,16 @@ pub record Opens (v : View) (h : List Moment) (m : Moment) : Type 0 where
 
 -- ---- the law
 
+-- an answer of this call's kind
+abbrev pub Suits : Call → Answer → Type 0
+Suits call.Open (answer.Opened h) = Unit {0}
+Suits (call.Next n) (answer.Gave e) = Unit {0}
+Suits (call.Next n) answer.Done = Unit {0}
+Suits call.Skip (answer.Skipped n) = Unit {0}
+Suits (call.Close e) (answer.Closed k) = Unit {0}
+Suits c (answer.Refused f) = Unit {0}
+Suits c a = ⊥
+
 -- nothing has been opened: every answer is a refusal, and nothing is counted
 abbrev pub Refuses : Answer → Type 0
 Refuses (answer.Opened h) = ⊥
@@ -246,4 +256,4 @@ pub record PduStory (lends : Bool) (v : View) (h : List Moment) (m : Moment) (k 
 
 abbrev pub Law : Bool → View → List Moment → Type 0
 Law lends v told = (h : List Moment) (m : Moment) (k : List Moment) → told ≡ h ++ (m ∷ k) →
-    (AllIdle (h ++ (m ∷ [])) ⊎ PduStory lends v h m k) × (m.call ≡ call.Open → Opens v h m)
+    Suits m.call m.answer × (AllIdle (h ++ (m ∷ [])) ⊎ PduStory lends v h m k) × (m.call ≡ call.Open → Opens v h m)
