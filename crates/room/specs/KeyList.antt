@@ -1,5 +1,5 @@
 -- What the read of a template's key list gives and leaves of the reader, or how it refuses.
-use Rattle.std.specs.Prelude.{ℕ, zero, suc, ◌+◌, ◌-◌, Bool, true, false, cond, List, [], ◌∷◌, take, Some, None, Option, ◌==◌, nat_le, nat_lt}
+use Rattle.std.specs.Prelude.{◌≡◌, ◌++◌, Ok, Err, Result, ℕ, zero, suc, ◌+◌, ◌-◌, Bool, true, false, cond, List, [], ◌∷◌, take, Some, None, Option, ◌==◌, nat_le, nat_lt}
 use Rattle.read.specs.Reader.{View, discarded}
 use Rattle.format.specs.declared.refusal.ReadError.{ReadError}
 use Rattle.format.specs.declared.refusal.ReadError.TheVariants.{End, Stop, Room, Short, Source, Magic, Byte, Negative, TooLong, NotText}
@@ -7,7 +7,7 @@ use Rattle.format.specs.declared.refusal.Kind.TheVariants.{KeyList, TemplateKey}
 use Rattle.format.specs.declared.refusal.Cause.{Cause}
 use Rattle.format.specs.declared.refusal.Cause.TheVariants.{Read, Depth, KeyRoom}
 use Rattle.format.specs.declared.refusal.Refusal.{Refusal}
-use Rattle.bunser.specs.Outcome.{Outcome, got, bad, and_then, at, placed}
+use Rattle.bunser.specs.Outcome.{Outcome, got, bad, and_then, at, placed, RefusalLeaves}
 use Rattle.bunser.specs.Reads.{peek_read}
 use Rattle.bunser.specs.Texts.{text_read, placed_count, key_length_read}
 use Rattle.room.specs.Open.{Column, lent, copied, column_bytes}
@@ -30,9 +30,16 @@ room_cause Negative = Read Negative
 room_cause TooLong = Read TooLong
 room_cause NotText = Read NotText
 
+abbrev pub room_refusal : ℕ → ReadError → Refusal
+room_refusal p e = record { place = p; cause = room_cause e }
+
+abbrev pub room_result : {A : Type 0} → ℕ → Result A ReadError → Result A Refusal
+room_result p (Ok a) = Ok a
+room_result p (Err e) = Err (room_refusal p e)
+
 abbrev pub in_key_room : {A : Type 0} → ℕ → Outcome ReadError A → Outcome Refusal A
 in_key_room p (got a v) = got a v
-in_key_room p (bad e v) = bad (record { place = p; cause = room_cause e }) v
+in_key_room p (bad e v) = bad (room_refusal p e) v
 
 -- the column of a key of n bytes that come next
 abbrev pub column_of : Bool → ℕ → View → Column
@@ -65,3 +72,14 @@ listed lends end levels keys held t v = cond (t == 0x00) (levelled lends end lev
 -- a key list, where so many levels, keys and key bytes are taken
 unfoldable pub key_list_read : Bool → Option ℕ → ℕ → ℕ → ℕ → View → Outcome Refusal (List Column)
 key_list_read lends end levels keys held v = and_then (placed v.count (peek_read end v)) (listed lends end levels keys held)
+
+-- ---- how it is told: the keys go behind those that are there
+
+abbrev pub KeyTold : Outcome Refusal Column → List Column → Result Unit Refusal → List Column → View → Type 0
+KeyTold (got k v) old r new w = (r ≡ Ok tt) × (w ≡ v) × (new ≡ old ++ k ∷ [])
+KeyTold (bad f v) old r new w = (r ≡ Err f) × RefusalLeaves f v w × (new ≡ old)
+
+-- of those before a refusal, some may stand there
+abbrev pub KeysTold : Outcome Refusal (List Column) → List Column → Result Unit Refusal → List Column → View → Type 0
+KeysTold (got ks v) old r new w = (r ≡ Ok tt) × (w ≡ v) × (new ≡ old ++ ks)
+KeysTold (bad f v) old r new w = (r ≡ Err f) × RefusalLeaves f v w × (more : List Column) × (new ≡ old ++ more)

@@ -2,3 +2,5 @@
 #![tactic(auto)]
 
 pub mod due;
+pub mod keys;
+pub mod slot;

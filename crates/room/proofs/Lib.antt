@@ -1,0 +1,4 @@
+pub mod Holding
+pub mod Slotting
+pub mod Held
+pub mod Listing
