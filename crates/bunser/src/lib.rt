@@ -65,8 +65,8 @@ fn is_magic(bytes: [u8; 2]) -> bool
 }
 
 // A value and no closure: the read stands where it is made, and only its refusal gets a place.
-// What a read that begins at this place has come to.
-fn placed<T>(read: Result<T, ReadError>, place: usize) -> Result<T, Refusal>
+/// What a read that begins at this place has come to.
+pub fn placed<T>(read: Result<T, ReadError>, place: usize) -> Result<T, Refusal>
     ensures { result ≡ placed_result place read }
 {
     read.map_err(|error| error.at(place))

@@ -1,5 +1,5 @@
 -- How the read of a key is told of the list that key room holds.
-use Rattle.std.proofs.Common.{◌≡◌, ℕ, ◌+◌, ◌<◌, ◌≤◌, Bool, List, [], ◌∷◌, ◌++◌, length, take, drop, set, IsErrAnd, Ok, Err, Option, Result, sym, refl, ap, ◌∙◌, subst, subst₂}
+use Rattle.std.proofs.Common.{◌≡◌, ℕ, ◌+◌, ◌<◌, ◌≤◌, Bool, List, [], ◌∷◌, ◌++◌, length, take, set, IsErrAnd, Ok, Err, Option, Result, sym, refl, ap, ◌∙◌, subst}
 use Rattle.read.specs.Reader.{View}
 use Rattle.format.specs.declared.refusal.Refusal.{Refusal}
 use Rattle.bunser.specs.Outcome.{Outcome, got, bad}
@@ -7,7 +7,7 @@ use Rattle.bunser.proofs.Telling.{ok_err, err_is}
 use Rattle.room.specs.Open.{Column, column_bytes}
 use Rattle.room.specs.KeyList.{key_text_read, KeyTold}
 use Rattle.room.specs.declared.slot.Slot.{Slot}
-use Rattle.room.specs.Slots.{column_in, end_of, Slotted, SlotTold}
+use Rattle.room.specs.Slots.{end_of, Slotted, SlotTold}
 use Rattle.room.specs.Keys.{columns_in, columns_of, Kept}
 use Rattle.room.specs.declared.keys.KeyRoom.TheInside.{Inside}
 use Rattle.room.proofs.Holding.{used_bytes, pushed_kept, pushed, unchanged}

@@ -1,7 +1,8 @@
 -- What key room holds, as a list, where a key is looked up, given up or put behind the others.
 use Rattle.std.proofs.Common.{◌≡◌, ℕ, zero, suc, ◌+◌, ◌-◌, ◌<◌, ◌≤◌, List, [], ◌∷◌, ◌++◌, length, get_or, take, drop, set, sym, refl, ap, ◌∙◌, subst, arith, length-take, length-set}
-use Rattle.std.proofs.lemmas.List.{take_more, take_more_set, drop_more, get_or-take, take-take}
+use Rattle.std.proofs.lemmas.List.{take_more, take_more_set, get_or-take, take-take}
 use lib.ListN.{length-drop}
+use Rattle.room.proofs.Parts.{front_part}
 use Rattle.room.specs.Open.{Column, lent, copied, column_bytes}
 use Rattle.room.specs.declared.slot.Slot.{Slot}
 use Rattle.room.specs.declared.slot.Slot.TheVariants.{Lent, Held}
@@ -42,16 +43,6 @@ packed_less (Lent p n) i [] j h = (h, omega arith)
 packed_less (Held a n) i [] j h = (sym h.0, omega (arith, h.0, h.1))
 packed_less s i (Lent p n ∷ ks) j h = packed_less s i ks j h
 packed_less s i (Held a n ∷ ks) j h = let (k, l) = packed_less s (i + n) ks j h.1 in ((h.0, k), l)
-
--- a part of the front is a part of the whole
-front_part : (h n j : ℕ) (bytes : List ℕ) → h + n ≤ j → take n (drop h (take j bytes)) ≡ take n (drop h bytes)
-front_part zero zero j bytes le = refl
-front_part zero (suc n) zero bytes le = absurd (omega arith)
-front_part zero (suc n) (suc j) [] le = refl
-front_part zero (suc n) (suc j) (x ∷ bytes) le = ap (λ l. x ∷ l) (front_part zero n j bytes (omega arith))
-front_part (suc h) n zero bytes le = absurd (omega arith)
-front_part (suc h) n (suc j) [] le = refl
-front_part (suc h) n (suc j) (x ∷ bytes) le = front_part h n j bytes (omega arith)
 
 -- what lies there does not change with the bytes behind it
 columns_same : (bytes bytes' : List ℕ) (i : ℕ) (ks : List Slot) (j : ℕ) → Packed i ks j → take j bytes' ≡ take j bytes → columns_in bytes' ks ≡ columns_in bytes ks

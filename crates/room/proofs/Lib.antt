@@ -1,4 +1,9 @@
+pub mod Parts
 pub mod Holding
 pub mod Slotting
 pub mod Held
 pub mod Listing
+pub mod Columns
+pub mod Levels
+pub mod Innermost
+pub mod KeyLists

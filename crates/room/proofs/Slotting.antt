@@ -5,20 +5,18 @@ use lib.ListN.{length-drop}
 use Rattle.std.proofs.lemmas.Bool.{ltb-false}
 use Rattle.std.proofs.lemmas.List.{take_at, drop_at, append_assoc}
 use Rattle.utf8.specs.Utf8.{utf8}
-use Rattle.read.specs.declared.Fault.{Fault}
 use Rattle.read.specs.declared.Fault.TheVariants as fault
 use Rattle.read.specs.declared.Taken.{Taken}
 use Rattle.read.specs.declared.Taken.TheVariants as taken_as
-use Rattle.read.specs.Reader.{View, past, room, cramped, shortfall, refusal, advanced, lies, put}
+use Rattle.read.specs.Reader.{View, past, room, shortfall, advanced, lies, put}
 use Rattle.format.specs.declared.refusal.ReadError.{ReadError}
 use Rattle.format.specs.declared.refusal.ReadError.TheVariants.{End, Stop, Room, Short, Source, Magic, Byte, Negative, TooLong, NotText}
 use Rattle.format.specs.declared.refusal.Refusal.{Refusal}
-use Rattle.bunser.specs.Outcome.{Outcome, got, bad, and_then, judged, asked, answer, ReadLeaves, RefusalLeaves, CauseLeaves, Tells, TellsAt}
-use Rattle.bunser.specs.Reads.{bytes_read, fronts}
+use Rattle.bunser.specs.Outcome.{Outcome, got, bad, and_then, judged, asked, answer, ReadLeaves, CauseLeaves, Tells, TellsAt}
 use Rattle.bunser.specs.Texts.{textual, text_read, text_fronts}
-use Rattle.bunser.proofs.Telling.{ok_err, err_is, told_ok}
+use Rattle.bunser.proofs.Telling.{ok_err, err_is}
 use Rattle.bunser.proofs.Asking.{granted}
-use Rattle.room.specs.Open.{Column, lent, copied}
+use Rattle.room.specs.Open.{lent, copied}
 use Rattle.room.specs.KeyList.{key_space, room_cause, room_refusal, room_result, in_key_room, column_of, key_text_read}
 use Rattle.room.specs.declared.slot.Slot.{Slot}
 use Rattle.room.specs.declared.slot.Slot.TheVariants.{Lent, Held}
@@ -71,7 +69,7 @@ told_in_room m p q r k w same h is = subst (λ q. TellsAt (in_key_room q m) k w)
     go (bad f v) (Err x) (e, h) = let k : x ≡ f = cc in (ap (λ y. Err (room_refusal p y)) k, room_leaves f v w h)
 
 module _ (lends : Bool) (end : Option ℕ) (used n : ℕ) (v w : View) (bytes buf : List ℕ) (long : length bytes ≡ 4096) (few : used ≤ 4096)
-  (place : ℕ) (is : place ≡ v.count) (r : Result Taken ReadError) (reads : Tells (text_read lends end (room lends (mid_of used (4096 - used) bytes)) n v) r w) where
+    (place : ℕ) (is : place ≡ v.count) (r : Result Taken ReadError) (reads : Tells (text_read lends end (room lends (mid_of used (4096 - used) bytes)) n v) r w) where
   abbrev bytes' : List ℕ
   bytes' = put_mid used (4096 - used) bytes buf
 
@@ -124,10 +122,10 @@ module _ (lends : Bool) (end : Option ℕ) (used n : ℕ) (v w : View) (bytes bu
         let whole : length (take n v.coming) ≡ n = rw length-take (omega arith) in
         let free : length (mid_of used (4096 - used) bytes) ≡ 4096 - used = rw (length-take, length-drop) (omega arith) in
         let same : buf ≡ take n v.coming ++ drop (length (take n v.coming)) (mid_of used (4096 - used) bytes) =
-            at
-            ∙ ap (λ m. put false (text_fronts (asked end v (Some m) n) (utf8 (take n v.coming)) n v) (mid_of used (4096 - used) bytes)) free
-            ∙ ap (λ o. put false (text_fronts o (utf8 (take n v.coming)) n v) (mid_of used (4096 - used) bytes)) ok
-            ∙ ap (λ b. put false (text_fronts None b n v) (mid_of used (4096 - used) bytes)) came.good in
+        at
+        ∙ ap (λ m. put false (text_fronts (asked end v (Some m) n) (utf8 (take n v.coming)) n v) (mid_of used (4096 - used) bytes)) free
+        ∙ ap (λ o. put false (text_fronts o (utf8 (take n v.coming)) n v) (mid_of used (4096 - used) bytes)) ok
+        ∙ ap (λ b. put false (text_fronts None b n v) (mid_of used (4096 - used) bytes)) came.good in
         ap (take n) (drop_at (take used bytes) (buf ++ post_of used (4096 - used) bytes) used front)
         ∙ ap (λ b. take n (b ++ post_of used (4096 - used) bytes)) same
         ∙ ap (take n) (append_assoc (take n v.coming) (drop (length (take n v.coming)) (mid_of used (4096 - used) bytes)) (post_of used (4096 - used) bytes))

@@ -10,7 +10,8 @@ use Rattle.format.specs.declared.refusal.Refusal.{Refusal}
 use Rattle.bunser.specs.Outcome.{Outcome, got, bad, and_then, at, placed, RefusalLeaves}
 use Rattle.bunser.specs.Reads.{peek_read}
 use Rattle.bunser.specs.Texts.{text_read, placed_count, key_length_read}
-use Rattle.room.specs.Open.{Column, lent, copied, column_bytes}
+use Rattle.room.specs.Open.{Column, lent, copied, column_bytes, Open}
+use Rattle.room.specs.Opened.{Opened}
 
 -- the key bytes that are free: a reader that lends takes up none
 abbrev pub key_space : Bool → ℕ → Option ℕ
@@ -61,10 +62,13 @@ keys_read lends end held (suc n) v = and_then (key_read lends end held v) (λ k 
 abbrev pub counted_keys : Bool → Option ℕ → ℕ → ℕ → ℕ → ℕ → View → Outcome Refusal (List Column)
 counted_keys lends end keys held p n v = cond (nat_le (keys + n) 256) (keys_read lends end held n v) (bad (record { place = p; cause = KeyRoom }) v)
 
+-- a list whose tag was shown
+abbrev pub listed_read : Bool → Option ℕ → ℕ → ℕ → View → Outcome Refusal (List Column)
+listed_read lends end keys held v = and_then (placed_count lends end (discarded lends v)) (counted_keys lends end keys held (discarded lends v).count)
+
 -- the list itself has a level, behind the template's own
 abbrev pub levelled : Bool → Option ℕ → ℕ → ℕ → ℕ → View → Outcome Refusal (List Column)
-levelled lends end levels keys held v =
-    cond (nat_lt (suc levels) 128) (and_then (placed_count lends end (discarded lends v)) (counted_keys lends end keys held (discarded lends v).count)) (bad (record { place = v.count; cause = Depth }) v)
+levelled lends end levels keys held v = cond (nat_lt (suc levels) 128) (listed_read lends end keys held v) (bad (record { place = v.count; cause = Depth }) v)
 
 abbrev pub listed : Bool → Option ℕ → ℕ → ℕ → ℕ → ℕ → View → Outcome Refusal (List Column)
 listed lends end levels keys held t v = cond (t == 0x00) (levelled lends end levels keys held v) (bad (at (Byte KeyList t) v.count) v)
@@ -83,3 +87,8 @@ KeyTold (bad f v) old r new w = (r ≡ Err f) × RefusalLeaves f v w × (new ≡
 abbrev pub KeysTold : Outcome Refusal (List Column) → List Column → Result Unit Refusal → List Column → View → Type 0
 KeysTold (got ks v) old r new w = (r ≡ Ok tt) × (w ≡ v) × (new ≡ old ++ ks)
 KeysTold (bad f v) old r new w = (r ≡ Err f) × RefusalLeaves f v w × (more : List Column) × (new ≡ old ++ more)
+
+-- the keys are listed, or none is
+abbrev pub ListTold : Outcome Refusal (List Column) → List (Open Column) → Result Unit Refusal → Opened → View → Type 0
+ListTold (got ks v) s r new w = (r ≡ Ok tt) × (w ≡ v) × (new ≡ record { opens = s; listed = ks })
+ListTold (bad f v) s r new w = (r ≡ Err f) × RefusalLeaves f v w × (new ≡ record { opens = s; listed = [] })

@@ -6,9 +6,9 @@ ghost use Rattle.room.specs.KeyList.{key_text_read, key_read, keys_read, KeyTold
 ghost use Rattle.room.specs.Shown.{name_of};
 
 use super::slot::{KEY_BYTES, Slot, held, read_slot};
+use bunser::Bunser;
 use format::refusal::{Kind, Refusal};
 use read::DeRead;
-use bunser::Bunser;
 use std::marker::Model;
 
 /// How many keys the open templates may hold together.
@@ -117,7 +117,8 @@ impl KeyRoom {
     /// Reads n keys, for which there is room by number.
     pub fn read_keys<R: DeRead>(&mut self, bunser: &mut Bunser<R>, n: usize) -> Result<(), Refusal>
         requires { length self.old + n ≤ KEYS }
-        ensures { BodyRead R.DeRead.view bunser.old bunser.new (λ end v. KeysTold (keys_read R.DeRead.lends end (column_bytes self.old) n v) self.old result self.new) }
+        ensures few { length self.new ≤ KEYS }
+        ensures reads { BodyRead R.DeRead.view bunser.old bunser.new (λ end v. KeysTold (keys_read R.DeRead.lends end (column_bytes self.old) n v) self.old result self.new) }
     {
         for _ in 0..n {
             self.read_key(bunser)?;

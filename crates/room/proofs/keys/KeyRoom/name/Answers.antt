@@ -1,4 +1,4 @@
-use Rattle.std.proofs.Common.{◌≡◌, ◌∙◌, ◌<◌, ◌+◌, ◌-◌, ap, sym, subst, length, take, drop, ◌∷◌, arith}
+use Rattle.std.proofs.Common.{◌∙◌, ◌<◌, ◌+◌, ap, sym, subst, length, take, drop, ◌∷◌, arith}
 use Rattle.room.specs.Open.{lent, copied}
 use Rattle.room.proofs.Holding.{count_long, found, found_within}
 use Rattle.room.proofs.keys.KeyRoom.name.Goals as goal

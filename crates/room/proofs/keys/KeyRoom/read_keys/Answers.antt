@@ -1,11 +1,11 @@
-use Rattle.std.proofs.Common.{◌≡◌, ◌+◌, ◌-◌, ◌≤◌, suc, Ok, Err, length, sym, subst, ◌∙◌, arith}
+use Rattle.std.proofs.Common.{◌≡◌, ◌+◌, ◌-◌, suc, Ok, Err, subst, ◌∙◌, arith}
 use Rattle.room.specs.Open.{column_bytes}
 use Rattle.room.specs.KeyList.{key_read, KeyTold}
 use Rattle.room.proofs.Listing.{Onward, keys_stop, one_more, one_longer}
 use Rattle.room.proofs.keys.KeyRoom.read_keys.Goals as goal
 
-pub returns-in_err-read_key : goal.returns-in_err-read_key
-returns-in_err-read_key g c =
+pub returns-in_err-read_key-clause-reads : goal.returns-in_err-read_key-clause-reads
+returns-in_err-read_key-clause-reads g c =
     let v = g.R.DeRead.view c.args.bunser.now.read in
     let w = g.R.DeRead.view c.loop.bunser.read in
     let u = g.R.DeRead.view c.read_key.new.bunser.read in

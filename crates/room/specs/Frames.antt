@@ -1,0 +1,75 @@
+-- What a frame means, where key room holds these columns.
+use Rattle.std.specs.Prelude.{◌≡◌, ℕ, ◌+◌, ◌≤◌, cond, List, length, take, drop, Some, None, Option, nat_lt}
+use Rattle.room.specs.Open.{Column, Open, items, pairs, field, rows, row, cell}
+use Rattle.room.specs.declared.frame.Table.{Table}
+use Rattle.room.specs.declared.frame.Frame.{Frame}
+use Rattle.room.specs.declared.frame.Frame.TheVariants as frame
+
+abbrev pub columns : List Column → Table → List Column
+columns held t = take t.len (drop t.first held)
+
+abbrev pub open_of : List Column → Frame → Open Column
+open_of held (frame.Items n) = items n
+open_of held (frame.Pairs n) = pairs n
+open_of held (frame.Field n) = field n
+open_of held (frame.Rows t n) = rows (columns held t) n
+open_of held (frame.Row t i n) = row (drop i (columns held t)) (columns held t) n
+open_of held (frame.Cell t i n) = cell (drop i (columns held t)) (columns held t) n
+
+-- the columns of a template are there
+abbrev pub Fits : List Column → Frame → Type 0
+Fits held (frame.Items n) = Unit {0}
+Fits held (frame.Pairs n) = Unit {0}
+Fits held (frame.Field n) = Unit {0}
+Fits held (frame.Rows t n) = t.first + t.len ≤ length held
+Fits held (frame.Row t i n) = t.first + t.len ≤ length held
+Fits held (frame.Cell t i n) = t.first + t.len ≤ length held
+
+-- where the columns of a frame end there, those of the frames below end here
+abbrev pub below : Frame → ℕ → ℕ
+below (frame.Items n) own = own
+below (frame.Pairs n) own = own
+below (frame.Field n) own = own
+below (frame.Rows t n) own = t.first
+below (frame.Row t i n) own = t.first
+below (frame.Cell t i n) own = t.first
+
+abbrev pub Ends : Frame → ℕ → Type 0
+Ends (frame.Items n) own = Unit {0}
+Ends (frame.Pairs n) own = Unit {0}
+Ends (frame.Field n) own = Unit {0}
+Ends (frame.Rows t n) own = t.first + t.len ≡ own
+Ends (frame.Row t i n) own = t.first + t.len ≡ own
+Ends (frame.Cell t i n) own = t.first + t.len ≡ own
+
+-- another frame over the same columns
+pub record Over (f g : Frame) : Type 0 where
+  pub ends : (own : ℕ) → Ends f own → Ends g own
+  pub below : (own : ℕ) → below g own ≡ below f own
+
+-- a row is one level more
+abbrev pub in_row : Frame → ℕ
+in_row (frame.Items n) = 0
+in_row (frame.Pairs n) = 0
+in_row (frame.Field n) = 0
+in_row (frame.Rows t n) = 0
+in_row (frame.Row t i n) = 1
+in_row (frame.Cell t i n) = 1
+
+-- a frame's columns end within key room
+abbrev pub Limited : Frame → Type 0
+Limited (frame.Items n) = Unit {0}
+Limited (frame.Pairs n) = Unit {0}
+Limited (frame.Field n) = Unit {0}
+Limited (frame.Rows t n) = t.first + t.len ≤ 256
+Limited (frame.Row t i n) = t.first + t.len ≤ 256
+Limited (frame.Cell t i n) = t.first + t.len ≤ 256
+
+-- where key room has the key that comes next
+abbrev pub column_at : Frame → Option ℕ
+column_at (frame.Items n) = None
+column_at (frame.Pairs n) = None
+column_at (frame.Field n) = None
+column_at (frame.Rows t n) = None
+column_at (frame.Row t i n) = cond (nat_lt i t.len) (Some (t.first + i)) None
+column_at (frame.Cell t i n) = None

@@ -1,0 +1,121 @@
+//! One open level, and how the events of a body change it.
+ghost use Rattle.std.specs.Prelude.{◌≡◌, ◌+◌, ◌≤◌, List, ◌∷◌, length};
+ghost use Rattle.room.specs.Open.{Column, Open, due, filled, keyed, row_turned};
+ghost use Rattle.room.specs.Frames.{open_of, Fits, Limited, Over, column_at, below, in_row};
+
+use super::due::Due;
+
+/// The columns of a template: so many keys of key room from an index on.
+#[derive(Clone, Copy)]
+pub struct Table {
+    pub(crate) first: usize,
+    pub(crate) len: usize,
+}
+
+/// What is open at one level.
+#[derive(Clone, Copy)]
+pub enum Frame {
+    /// An array with so many values to come.
+    Items(usize),
+    /// An object before a key, with so many pairs to come.
+    Pairs(usize),
+    /// An object before a value, with so many pairs to come behind it.
+    Field(usize),
+    /// A template before a row, with so many rows to come.
+    Rows(Table, usize),
+    /// A template in a row, before the key of the column at an index, with so many rows to come.
+    Row(Table, usize, usize),
+    /// The same before the cell in front of the column at an index.
+    Cell(Table, usize, usize),
+}
+
+impl Frame {
+    pub(crate) fn due(&self) -> Due
+        ensures { (held : List Column) (s : List (Open Column)) → Fits held self.now → result ≡ due (open_of held self.now ∷ s) }
+    {
+        match *self {
+            Frame::Items(0) | Frame::Rows(_, 0) => Due::ArrayEnd,
+            Frame::Items(_) | Frame::Field(_) => Due::Value,
+            Frame::Pairs(0) => Due::MapEnd,
+            Frame::Pairs(_) => Due::MapKey,
+            Frame::Rows(_, _) => Due::RowBegin,
+            Frame::Row(table, next, _) if next >= table.len => Due::RowEnd,
+            Frame::Row(_, _, _) => Due::RowKey,
+            Frame::Cell(_, _, _) => Due::Cell,
+        }
+    }
+
+    // A value has begun.
+    pub(crate) fn fill(&mut self)
+        ensures fills { (held : List Column) (s : List (Open Column)) → filled (open_of held self.old ∷ s) ≡ open_of held self.new ∷ s }
+        ensures over { Over self.old self.new }
+        ensures rows { in_row self.new ≡ in_row self.old }
+    {
+        match *self {
+            Frame::Items(left) => *self = Frame::Items(left.saturating_sub(1)),
+            Frame::Field(left) => *self = Frame::Pairs(left),
+            Frame::Cell(table, next, left) => *self = Frame::Row(table, next, left),
+            _ => {}
+        }
+    }
+
+    // The key of a pair has passed.
+    pub(crate) fn key(&mut self)
+        ensures keys { (held : List Column) (s : List (Open Column)) → keyed (open_of held self.old ∷ s) ≡ open_of held self.new ∷ s }
+        ensures over { Over self.old self.new }
+        ensures rows { in_row self.new ≡ in_row self.old }
+    {
+        if let Frame::Pairs(left) = *self
+            && left > 0
+        {
+            *self = Frame::Field(left - 1);
+        }
+    }
+
+    // A row begins, the key of a column passes, or a row ends.
+    pub(crate) fn turn(&mut self)
+        ensures turns { (held : List Column) (s : List (Open Column)) → Fits held self.old → row_turned (open_of held self.old ∷ s) ≡ open_of held self.new ∷ s }
+        ensures over { Over self.old self.new }
+    {
+        match *self {
+            Frame::Rows(table, left) if left > 0 => *self = Frame::Row(table, 0, left - 1),
+            Frame::Row(table, next, left) if next < table.len => {
+                *self = Frame::Cell(table, next + 1, left);
+            }
+            Frame::Row(table, _, left) => *self = Frame::Rows(table, left),
+            _ => {}
+        }
+    }
+
+    // 1 in a row, which is a level of its own for a skip.
+    pub(crate) fn rows(&self) -> usize
+        ensures { result ≡ in_row self.now }
+    {
+        match *self {
+            Frame::Row(_, _, _) | Frame::Cell(_, _, _) => 1,
+            _ => 0,
+        }
+    }
+
+    // How many keys the templates below hold, where this one and they hold so many.
+    pub(crate) fn below(&self, own: usize) -> usize
+        ensures { result ≡ below self.now own }
+    {
+        match *self {
+            Frame::Rows(table, _) | Frame::Row(table, _, _) | Frame::Cell(table, _, _) =>
+                table.first,
+            _ => own,
+        }
+    }
+
+    // Where key room has the key that comes next.
+    pub(crate) fn column(&self) -> Option<usize>
+        requires { Limited self.now }
+        ensures { result ≡ column_at self.now }
+    {
+        match *self {
+            Frame::Row(table, next, _) if next < table.len => Some(table.first + next),
+            _ => None,
+        }
+    }
+}

@@ -1,0 +1,293 @@
+//! What is open of a body, in fixed memory.
+ghost use Rattle.std.specs.Prelude.{◌≡◌, ◌+◌, ◌-◌, ◌<◌, ◌≤◌, List, [], ◌∷◌, length, set, nat_lt};
+ghost use Rattle.bunser.specs.Outcome.{BodyRead};
+ghost use Rattle.room.specs.Open.{Open, start, items, pairs, rows, due, filled, keyed, row_turned, ended, column, depth, nesting, keys_held, bytes_held, column_bytes};
+ghost use Rattle.room.specs.KeyList.{listed_read, key_list_read, KeysTold, ListTold};
+ghost use Rattle.room.specs.Opened.{Opened, with_opens};
+ghost use Rattle.room.specs.Shown.{name_of};
+
+use super::depth::{Depth, LEVELS, Level};
+use super::due::Due;
+use super::frame::{Frame, Table};
+use super::keys::{KEYS, KeyRoom, Name};
+use bunser::{Bunser, placed};
+use format::refusal::{Cause, Kind, ReadError, Refusal};
+use format::tags::Tag;
+use read::DeRead;
+use std::marker::Model;
+
+/// The open levels, and the keys of the open templates.
+#[derive(Drop)]
+pub struct Opens {
+    frames: [Frame; LEVELS],
+    depth: Depth,
+    /// The one value of the body is to come.
+    starts: bool,
+    /// How many rows are open.
+    rows: usize,
+    keys: KeyRoom,
+    /// How many keys the open templates hold: those behind them have no template yet.
+    own: usize,
+}
+
+impl Model for Opens {
+    ghost use Rattle.room.specs.Opened.{Opened};
+
+    ghost Value = { Opened };
+
+    ghost use Rattle.room.specs.Opens.{opened, Kept};
+
+    ghost view = { opened };
+
+    ghost invariant = { Kept };
+}
+
+// A level is taken by this frame.
+fn push(frames: &mut [Frame; LEVELS], depth: &mut Depth, frame: Frame)
+    requires free { 0 < depth.old.free }
+    requires all { (depth.old.free ≤ 128) × (length frames.old ≡ 128) }
+    ensures there { frames.new ≡ set frames.old (128 - depth.old.free) frame }
+    ensures less { depth.new.free ≡ depth.old.free - 1 }
+{
+    frames[depth.taken()] = frame;
+    depth.free -= 1;
+}
+
+// The keys of a list, whose level is given back on every way out. The list begins with its tag, which was shown.
+fn read_listed<R: DeRead>(
+    keys: &mut KeyRoom,
+    bunser: &mut Bunser<R>,
+    level: Level<'_>,
+) -> Result<(), Refusal>
+    requires { level.0.now.free < 255 }
+    ensures level { level.exit.0.now.free ≡ level.entry.0.now.free + 1 }
+    ensures few { length keys.new ≤ KEYS }
+    ensures reads { BodyRead R.DeRead.view bunser.old bunser.new (λ end v. KeysTold (listed_read R.DeRead.lends end (length keys.old) (column_bytes keys.old) v) keys.old result keys.new) }
+{
+    let held = keys.len();
+    bunser.discard();
+    let place = bunser.read_count();
+    let count = bunser.placed_count()?;
+    if count > KEYS - held {
+        return Err(Refusal {
+            place,
+            cause: Cause::KeyRoom,
+        });
+    }
+    keys.read_keys(bunser, count)
+}
+
+impl Opens {
+    pub fn new() -> Opens
+        ensures { result ≡ record { opens = []; listed = [] } }
+    {
+        Opens {
+            frames: [Frame::Items(0); LEVELS],
+            depth: Depth { free: 128 },
+            starts: false,
+            rows: 0,
+            keys: KeyRoom::new(),
+            own: 0,
+        }
+    }
+
+    /// One value is to come, and nothing else is open.
+    pub fn begin(&mut self)
+        ensures { self.new ≡ record { opens = start ∷ []; listed = [] } }
+    {
+        self.keys.truncate(0);
+        self.depth.free = 128;
+        self.starts = true;
+        self.rows = 0;
+        self.own = 0;
+    }
+
+    /// Whether a level is free.
+    pub fn is_free(&self) -> bool
+        ensures { result ≡ nat_lt (depth self.now.opens) LEVELS }
+    {
+        self.depth.free > 0
+    }
+
+    /// How many arrays, objects, templates and rows are open.
+    pub fn nesting(&self) -> usize
+        ensures { result ≡ nesting self.now.opens }
+    {
+        self.depth.taken() + self.rows
+    }
+
+    /// How many keys have been read of a list whose template has not begun.
+    pub fn listed(&self) -> usize
+        ensures { result ≡ length self.now.listed }
+    {
+        self.keys.len() - self.own
+    }
+
+    /// What comes next.
+    pub fn due(&self) -> Due
+        ensures { result ≡ due self.now.opens }
+    {
+        let taken = self.depth.taken();
+        if taken > 0 {
+            self.frames[taken - 1].due()
+        } else if self.starts {
+            Due::Value
+        } else {
+            Due::Done
+        }
+    }
+
+    /// The column whose key comes next.
+    pub fn column(&self) -> Name<'_>
+        ensures { name_of result ≡ column self.now.opens }
+    {
+        let taken = self.depth.taken();
+        if taken == 0 {
+            return Name::Copied(&[]);
+        }
+        match self.frames[taken - 1].column() {
+            Some(index) => self.keys.name(index),
+            None => Name::Copied(&[]),
+        }
+    }
+
+    /// A value has begun.
+    pub fn fill(&mut self)
+        ensures { self.new ≡ with_opens self.old (filled self.old.opens) }
+    {
+        let taken = self.depth.taken();
+        if taken > 0 {
+            self.frames[taken - 1].fill();
+        } else {
+            self.starts = false;
+        }
+    }
+
+    /// The key of a pair has passed.
+    pub fn key(&mut self)
+        ensures { self.new ≡ with_opens self.old (keyed self.old.opens) }
+    {
+        let taken = self.depth.taken();
+        if taken > 0 {
+            self.frames[taken - 1].key();
+        }
+    }
+
+    /// A row begins, the key of a column passes, or a row ends.
+    pub fn turn(&mut self)
+        ensures { self.new ≡ with_opens self.old (row_turned self.old.opens) }
+    {
+        let taken = self.depth.taken();
+        if taken > 0 {
+            let frame = &mut self.frames[taken - 1];
+            let rows = self.rows - frame.rows();
+            frame.turn();
+            self.rows = rows + frame.rows();
+        }
+    }
+
+    // The innermost level is given back.
+    fn pop(&mut self)
+        ensures { self.new.opens ≡ ended self.old.opens }
+    {
+        let taken = self.depth.taken();
+        if taken > 0 {
+            let frame = self.frames[taken - 1];
+            self.rows -= frame.rows();
+            self.own = frame.below(self.own);
+            self.depth.free += 1;
+        } else {
+            self.starts = false;
+        }
+    }
+
+    // Keys that no template holds are given back.
+    fn forget(&mut self)
+        ensures { self.new ≡ record { opens = self.old.opens; listed = [] } }
+    {
+        let own = self.own;
+        self.keys.truncate(own);
+    }
+
+    /// The innermost has ended. A template gives its keys back.
+    pub fn end(&mut self)
+        ensures { self.new ≡ record { opens = ended self.old.opens; listed = [] } }
+    {
+        self.pop();
+        self.forget();
+    }
+
+    /// An array begins.
+    pub fn items(&mut self, n: usize)
+        requires { depth self.old.opens < LEVELS }
+        ensures { self.new ≡ with_opens self.old (items n ∷ filled self.old.opens) }
+    {
+        self.fill();
+        push(&mut self.frames, &mut self.depth, Frame::Items(n));
+    }
+
+    /// An object begins.
+    pub fn pairs(&mut self, n: usize)
+        requires { depth self.old.opens < LEVELS }
+        ensures { self.new ≡ with_opens self.old (pairs n ∷ filled self.old.opens) }
+    {
+        self.fill();
+        push(&mut self.frames, &mut self.depth, Frame::Pairs(n));
+    }
+
+    // The list behind its tag, which was shown, where two levels are free: the template's own and the list's.
+    fn read_list<R: DeRead>(&mut self, bunser: &mut Bunser<R>) -> Result<(), Refusal>
+        requires free { depth self.old.opens + 1 < LEVELS }
+        requires none { self.old.listed ≡ [] }
+        ensures { BodyRead R.DeRead.view bunser.old bunser.new (λ end v. ListTold (listed_read R.DeRead.lends end (keys_held self.old.opens) (bytes_held column_bytes self.old.opens) v) self.old.opens result self.new) }
+    {
+        let mut depth = self.depth.below();
+        let read = {
+            let level = Level(&mut depth);
+            read_listed(&mut self.keys, bunser, level)
+        };
+        self.depth = depth.above();
+        match read {
+            Ok(()) => Ok(()),
+            Err(refusal) => {
+                self.forget();
+                Err(refusal)
+            }
+        }
+    }
+
+    /// Reads the key list of a template. It has a level of its own, behind the template's.
+    pub fn read_keys<R: DeRead>(&mut self, bunser: &mut Bunser<R>) -> Result<(), Refusal>
+        ensures { BodyRead R.DeRead.view bunser.old bunser.new (λ end v. ListTold (key_list_read R.DeRead.lends end (depth self.old.opens) (keys_held self.old.opens) (bytes_held column_bytes self.old.opens) v) self.old.opens result self.new) }
+    {
+        self.forget();
+        let place = bunser.read_count();
+        let tag = placed(bunser.peek(), place)?;
+        if tag != u8::from(Tag::Array) {
+            return Err(ReadError::Byte(Kind::KeyList, tag).at(place));
+        }
+        if !self.depth.has_two() {
+            return Err(Refusal {
+                place,
+                cause: Cause::Depth,
+            });
+        }
+        self.read_list(bunser)
+    }
+
+    /// A template begins: its columns are the keys that were listed.
+    pub fn rows(&mut self, n: usize)
+        requires { depth self.old.opens < LEVELS }
+        ensures { self.new ≡ record { opens = rows self.old.listed n ∷ filled self.old.opens; listed = [] } }
+    {
+        self.fill();
+        let first = self.own;
+        let own = self.keys.len();
+        let table = Table {
+            first,
+            len: own - first,
+        };
+        push(&mut self.frames, &mut self.depth, Frame::Rows(table, n));
+        self.own = own;
+    }
+}
