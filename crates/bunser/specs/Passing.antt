@@ -1,13 +1,14 @@
 -- A text that is passed over: a reader that copies draws it in pieces of 64 bytes.
-use Rattle.std.specs.Prelude.{ℕ, ◌*◌, ◌/◌, Bool, true, false, length, None, Ok, Err, Option, Result}
+use Rattle.std.specs.Prelude.{ℕ, ◌*◌, ◌/◌, Bool, true, false, List, length, take, None, Ok, Err, Option, Result}
+use Rattle.utf8.specs.Utf8.{utf8}
 use Rattle.read.specs.declared.Taken.{Taken}
 use Rattle.read.specs.Reader.{View, advanced}
 use Rattle.format.specs.declared.refusal.ReadError.{ReadError}
 use Rattle.format.specs.declared.refusal.ReadError.TheVariants.{End, Stop, Room, Short, Source, Magic, Byte, Negative, TooLong, NotText}
-use Rattle.bunser.specs.Outcome.{Outcome, got, bad}
-use Rattle.bunser.specs.Reads.{bytes_read}
+use Rattle.bunser.specs.Outcome.{Outcome, got, bad, asked}
+use Rattle.bunser.specs.Reads.{bytes_read, fronts}
 use Rattle.bunser.specs.declared.text.Unread.{Unread}
-use Rattle.bunser.specs.Texts.{checked, text_read}
+use Rattle.bunser.specs.Texts.{checked, text_read, text_fronts}
 
 -- the whole pieces that come are taken
 abbrev pub whole_pieces : Bool → View → View
@@ -42,6 +43,11 @@ passing lends (bad e v) = bad e (drawn_over lends e v)
 abbrev pub whole_read : Bool → Bool → Option ℕ → Option ℕ → ℕ → View → Outcome ReadError Taken
 whole_read true lends end space n v = text_read lends end space n v
 whole_read false lends end space n v = bytes_read lends end space n v
+
+-- what such a read puts to the front of a copying reader's buffer
+abbrev pub whole_fronts : Bool → Option ℕ → Option ℕ → ℕ → View → List ℕ
+whole_fronts true end space n v = text_fronts (asked end v space n) (utf8 (take n v.coming)) n v
+whole_fronts false end space n v = fronts (asked end v space n) n v
 
 unfoldable pub pass_read : Bool → Bool → Option ℕ → ℕ → View → Outcome ReadError Unit
 pass_read checked lends end n v = passing lends (whole_read checked lends end None n v)

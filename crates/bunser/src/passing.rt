@@ -1,9 +1,9 @@
 //! Texts that are passed over, of which nothing is kept.
 ghost use Rattle.std.specs.Prelude.{◌≡◌, ◌+◌, true, false, []};
 ghost use Rattle.utf8.specs.Pieces.{await, complete};
-ghost use Rattle.read.specs.Reader.{past, room};
+ghost use Rattle.read.specs.Reader.{past, room, put};
 ghost use Rattle.bunser.specs.Outcome.{Tells, BodyRead};
-ghost use Rattle.bunser.specs.Passing.{verdict_of, whole_read, text_passed};
+ghost use Rattle.bunser.specs.Passing.{verdict_of, whole_read, whole_fronts, text_passed};
 ghost use Rattle.bunser.specs.Texts.{checked};
 
 use super::Bunser;
@@ -43,15 +43,16 @@ impl<R: DeRead> Bunser<R> {
         verdict(text.kind, awaited.after(&piece[..left]))
     }
 
-    // A text in one read without a buffer, in which a reader that copies has no room for it.
-    fn take_whole(&mut self, text: Unread) -> Result<Taken, ReadError>
-        ensures { BodyRead R.DeRead.view self.old self.new (λ end v. Tells (whole_read (checked text.kind) R.DeRead.lends end (room R.DeRead.lends []) text.len v) result) }
+    /// Takes a text whose tag and length were taken, in one read.
+    pub fn take_text(&mut self, text: Unread, buf: &mut [u8]) -> Result<Taken, ReadError>
+        ensures reads { BodyRead R.DeRead.view self.old self.new (λ end v. Tells (whole_read (checked text.kind) R.DeRead.lends end (room R.DeRead.lends buf.old) text.len v) result) }
+        ensures puts { buf.new ≡ put R.DeRead.lends (whole_fronts (checked text.kind) self.old.end (room R.DeRead.lends buf.old) text.len (R.DeRead.view self.old.read)) buf.old }
     {
         // An `if` and no closure: each of the two borrows all of the reader.
         if text.kind.is_checked() {
-            self.next_text(text.len, &mut [])
+            self.next_text(text.len, buf)
         } else {
-            self.read_bytes(text.len, &mut [])
+            self.read_bytes(text.len, buf)
         }
     }
 
@@ -61,7 +62,7 @@ impl<R: DeRead> Bunser<R> {
     {
         // One `match` in the other: three arms were tried, and the proof did not close, since in the last
         // the error is not known to be another than `Room`.
-        match self.take_whole(text) {
+        match self.take_text(text, &mut []) {
             Ok(_) => Ok(()),
             Err(error) => match error {
                 ReadError::Room => self.pass_pieces(text),

@@ -2,3 +2,4 @@ pub mod Steps
 pub mod Calls
 pub mod Shown
 pub mod Made
+pub mod Held

@@ -3,4 +3,10 @@
 
 pub mod entry;
 pub mod event;
+pub mod events;
+mod array;
+mod coming;
+mod item;
+mod template;
+mod text;
 pub mod pdu;

@@ -1,0 +1,47 @@
+-- What the events of a body hold, as the calls define it.
+use Rattle.std.specs.Prelude.{ℕ, Bool, true, false, cond, List, [], length, None, Ok, Err, Result, nat_lt}
+use Rattle.read.specs.declared.Taken.TheVariants.{Lent, Copied}
+use Rattle.read.specs.Reader.{View}
+use Rattle.format.specs.declared.refusal.ReadError.TheVariants.{Room}
+use Rattle.format.specs.declared.refusal.Refusal.{Refusal}
+use Rattle.bunser.specs.Outcome.{at}
+use Rattle.bunser.specs.declared.text.Span.{Span}
+use Rattle.room.specs.Open.{Column, lent, copied}
+use Rattle.room.specs.declared.due.Due.{Due}
+use Rattle.room.specs.declared.due.Due.TheVariants as due
+use Rattle.de.specs.declared.events.Events.{Events}
+use Rattle.de.specs.Steps.{Body}
+
+abbrev pub body_of : {R : Type 0} → (R → View) → Events R → Body
+body_of view e = record { reader = view e.bunser.read; end = e.bunser.end; opens = e.opens.opens; unread = e.unread; events = e.passed }
+
+-- a reader of which nothing was asked
+abbrev pub unread_body : View → Body
+unread_body v = record { reader = v; end = None; opens = []; unread = None; events = 0 }
+
+-- a gap may stand where a cell is due
+abbrev pub may_gap : Due → Bool
+may_gap due.Cell = true
+may_gap due.Done = false
+may_gap due.Value = false
+may_gap due.MapKey = false
+may_gap due.RowBegin = false
+may_gap due.RowKey = false
+may_gap due.RowEnd = false
+may_gap due.MapEnd = false
+may_gap due.ArrayEnd = false
+
+-- where the key of a column lies once it is shown
+abbrev pub span_of : Column → Span
+span_of (lent p n) = record { taken = Lent p; len = n }
+span_of (copied bs) = record { taken = Copied; len = length bs }
+
+-- a column is shown where the buffer has room for a copied key
+abbrev pub column_shown : Column → ℕ → ℕ → Result Span Refusal
+column_shown (lent p n) place space = Ok (span_of (lent p n))
+column_shown (copied bs) place space = cond (nat_lt space (length bs)) (Err (at Room place)) (Ok (span_of (copied bs)))
+
+-- what is then put to the front of the buffer
+abbrev pub column_front : Column → ℕ → List ℕ
+column_front (lent p n) space = []
+column_front (copied bs) space = cond (nat_lt space (length bs)) [] bs

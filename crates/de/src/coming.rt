@@ -1,0 +1,68 @@
+//! What comes of a body, by what is open and by the tag.
+ghost use Rattle.std.specs.Prelude.{◌≡◌, Ok};
+ghost use Rattle.de.specs.Steps.{tagged, item_comes, coming, Finds};
+ghost use Rattle.de.specs.Held.{body_of, may_gap};
+
+use super::event::{Ahead, Event};
+use super::events::Events;
+use bunser::placed;
+use bunser::text::TextKind;
+use format::refusal::{Kind, ReadError, Refusal};
+use format::tags::Tag;
+use read::DeRead;
+use room::due::Due;
+
+impl<R: DeRead> Events<R> {
+    // An item by its tag, which was shown: a gap may stand where a cell is due.
+    #[tactic(auto, unfolding(crate::specs::Steps::tagged))]
+    fn tagged(&mut self, due: Due, tag: u8) -> Result<Ahead, Refusal>
+        ensures { Finds (tagged R.DeRead.lends (may_gap due) tag (body_of R.DeRead.view self.old)) result (body_of R.DeRead.view self.new) }
+    {
+        match (due, Tag::try_from(tag)) {
+            (_, Ok(Tag::Array)) => self.array(),
+            (_, Ok(Tag::Object)) => self.object(),
+            (_, Ok(Tag::Template)) => self.template(),
+            (_, Ok(Tag::ByteString)) => self.text(TextKind::Bytes),
+            (_, Ok(Tag::Utf8String)) => self.text(TextKind::Text),
+            (_, Ok(Tag::Int(width))) => self.int(width),
+            (_, Ok(Tag::Real)) => self.real(),
+            (_, Ok(Tag::True)) => Ok(self.only_tag(Event::True)),
+            (_, Ok(Tag::False)) => Ok(self.only_tag(Event::False)),
+            (_, Ok(Tag::Null)) => Ok(self.only_tag(Event::Null)),
+            (Due::Cell, Ok(Tag::Skip)) => Ok(self.only_tag(Event::Absent)),
+            (_, Ok(Tag::Skip) | Err(_)) => {
+                Err(ReadError::Byte(Kind::NextItem, tag).at(self.bunser.read_count()))
+            }
+        }
+    }
+
+    #[tactic(auto, using(crate::proofs::Finding::then_finds, crate::proofs::Finding::stop_finds), unfolding(crate::specs::Steps::item_comes))]
+    fn item(&mut self, due: Due) -> Result<Ahead, Refusal>
+        ensures { Finds (item_comes R.DeRead.lends (may_gap due) (body_of R.DeRead.view self.old)) result (body_of R.DeRead.view self.new) }
+    {
+        let place = self.bunser.read_count();
+        let tag = placed(self.bunser.peek(), place)?;
+        self.tagged(due, tag)
+    }
+
+    /// What comes next. An event that needs no text has passed then.
+    #[tactic(auto, unfolding(crate::specs::Steps::coming))]
+    pub(crate) fn coming(&mut self) -> Result<Ahead, Refusal>
+        ensures { Finds (coming R.DeRead.lends (body_of R.DeRead.view self.old)) result (body_of R.DeRead.view self.new) }
+    {
+        if let Some(text) = self.unread {
+            return Ok(Ahead::Text(text));
+        }
+        match self.opens.due() {
+            Due::Done => Ok(Ahead::Nothing),
+            Due::Value => self.item(Due::Value),
+            Due::Cell => self.item(Due::Cell),
+            Due::MapKey => self.map_key(),
+            Due::RowBegin => Ok(self.turn(Event::MapBegin)),
+            Due::RowKey => Ok(Ahead::Column),
+            Due::RowEnd => Ok(self.turn(Event::MapEnd)),
+            Due::MapEnd => Ok(self.end(Event::MapEnd)),
+            Due::ArrayEnd => Ok(self.end(Event::ArrayEnd)),
+        }
+    }
+}

@@ -1,0 +1,65 @@
+//! The events of a body, one after the other.
+ghost use Rattle.std.specs.Prelude.{◌≡◌, Some, None};
+ghost use Rattle.room.specs.Open.{start, filled, keyed, row_turned, ended};
+ghost use Rattle.de.specs.declared.event.Ahead.TheVariants.{Passed, Text};
+ghost use Rattle.de.specs.Steps.{behind, awaiting, due_comes, item_comes, coming, Finds};
+ghost use Rattle.de.specs.Held.{body_of, unread_body};
+
+use super::event::{Ahead, Event};
+use bunser::Bunser;
+use bunser::text::Unread;
+use format::refusal::Refusal;
+use read::DeRead;
+use room::due::Due;
+use room::opens::Opens;
+
+/// A body that is read event by event.
+#[derive(Drop)]
+pub struct Events<R: DeRead> {
+    pub(crate) bunser: Bunser<R>,
+    pub(crate) opens: Opens,
+    /// A text whose tag and length were taken, and whose event has not passed.
+    pub(crate) unread: Option<Unread>,
+    /// How many events have passed.
+    pub(crate) passed: usize,
+}
+
+impl<R: DeRead> Events<R> {
+    pub(crate) fn new(reader: R) -> Events<R>
+        ensures { body_of R.DeRead.view result ≡ unread_body (R.DeRead.view reader) }
+    {
+        Events {
+            bunser: Bunser::new(reader),
+            opens: Opens::new(),
+            unread: None,
+            passed: 0,
+        }
+    }
+
+    // An event passes, and no text is awaited.
+    pub(crate) fn pass(&mut self)
+        ensures { body_of R.DeRead.view self.new ≡ behind (body_of R.DeRead.view self.old) (body_of R.DeRead.view self.old).reader (body_of R.DeRead.view self.old).opens }
+    {
+        self.unread = None;
+        self.passed = self.passed.saturating_add(1);
+    }
+
+    // A value has begun, by this event.
+    pub(crate) fn pass_value(&mut self, event: Event) -> Ahead
+        ensures gives { result ≡ Passed event }
+        ensures passes { body_of R.DeRead.view self.new ≡ behind (body_of R.DeRead.view self.old) (body_of R.DeRead.view self.old).reader (filled (body_of R.DeRead.view self.old).opens) }
+    {
+        self.opens.fill();
+        self.pass();
+        Ahead::Passed(event)
+    }
+
+    // A text is awaited from now on.
+    pub(crate) fn wait(&mut self, text: Unread) -> Ahead
+        ensures gives { result ≡ Text text }
+        ensures waits { body_of R.DeRead.view self.new ≡ awaiting (body_of R.DeRead.view self.old) (body_of R.DeRead.view self.old).reader text }
+    {
+        self.unread = Some(text);
+        Ahead::Text(text)
+    }
+}
