@@ -2,7 +2,7 @@
 use Rattle.std.proofs.Common.{◌≡◌, ℕ, suc, ◌+◌, ◌-◌, ◌≤◌, Bool, true, false, List, [], ◌∷◌, ◌++◌, length, take, drop, Some, None, Option, ◌⊎◌, inl, inr, refl, sym, ap, ◌∙◌, subst, append_assoc, append-nil, length-append, arith}
 use Rattle.std.proofs.lemmas.Bool.{le-ltb, ltb-false}
 use Rattle.std.proofs.lemmas.List.{take-append-drop}
-use Rattle.std.proofs.Math.Seq.{take-append-add, drop-append_seam}
+use Rattle.std.proofs.Math.Seq.{take-append-add, take-append_seam, drop-append_seam}
 use Rattle.read.specs.Reader.{View, past, cramped}
 use Rattle.format.specs.Numbers.{latching}
 use Rattle.format.specs.declared.refusal.Refusal.{Refusal}
@@ -20,10 +20,10 @@ use Rattle.bunser.specs.Outcome.{ReadLeaves, CauseLeaves}
 use Rattle.room.specs.Open.{Column, Open}
 use Rattle.de.specs.declared.event.Event.{Event}
 use Rattle.de.specs.Steps.{Body, stops, counted, step, Apart}
-use Rattle.runs.specs.Law.{Begins, from, limits, Declared, Whole}
+use Rattle.runs.specs.Law.{Begins, from, limits, Declared, Whole, Ended}
 use Rattle.runs.proofs.Taking.{Level, levels, Takes, Front, none_taken, TextWanted, Waits}
-use Rattle.runs.proofs.Coming.{Completes, at_end, goes}
-use Rattle.runs.proofs.Reached.{Reached, reached_more}
+use Rattle.runs.proofs.Coming.{Completes, at_end, goes, all_come}
+use Rattle.runs.proofs.Reached.{Reached, reached_more, whole_body}
 use Rattle.runs.proofs.Stepped.{Took, Ready, Stepped, Waiting, Stopped, Can, can_give, must_wait}
 use Rattle.runs.proofs.Took.{took_none, took_more}
 use Rattle.runs.proofs.Standing.{past_less}
@@ -142,6 +142,30 @@ same_body {f} {b} {c} r a =
 pub passing_still : {lends : Bool} {v : View} {start size : ℕ} {taken : List ℕ} {es : List value.Event} {b c : Body} → Passing lends v start size taken es b → c.opens ≡ b.opens →
     c.events ≡ b.events → Passing lends v start size taken es c
 passing_still p o e = record { reached = rw o p.reached; counts = e ∙ p.counts; begins = p.begins; fits = p.fits }
+
+-- the bytes up to the last event that has passed
+pub bytes_taken : {lends : Bool} {v : View} {start size : ℕ} {taken : List ℕ} {es : List value.Event} {b : Body} → Passing lends v start size taken es b →
+    take (start + length taken - start) (from v start) ≡ taken
+bytes_taken {start = start} {taken = taken} p =
+    let long : start + length taken - start ≡ length taken = omega arith in
+    rw (long, p.begins.1) (take-append_seam taken p.begins.0)
+
+pub none_more : (es x : List value.Event) → es ≡ es ++ x → x ≡ []
+none_more es [] e = refl
+none_more es (t ∷ x) e = absurd (omega (arith, simp length-append at (ap length e)))
+
+-- a value has ended exactly where nothing is open
+pub has_ended : {lends : Bool} {v : View} {start size : ℕ} {taken : List ℕ} {es : List value.Event} {b : Body} → Passing lends v start size taken es b → b.opens ≡ [] →
+    (w : Value) × Ended v start es (start + length taken) w
+has_ended {lends} {v} {taken = taken} {es = es} p closed =
+    let (w, formed, body, told) = whole_body (subst (λ o. Reached lends taken es (levels (all_bytes v) o)) closed p.reached) in
+    (w, record { formed = formed; bytes = body ∙ sym (bytes_taken p); told = told })
+
+pub nothing_open : {lends : Bool} {v : View} {start size : ℕ} {taken : List ℕ} {es : List value.Event} {b : Body} → Passing lends v start size taken es b → (w : Value) →
+    Ended v start es (start + length taken) w → b.opens ≡ []
+nothing_open {v = v} {taken = taken} {es = es} {b = b} p w ended =
+    let (x, told, completes) = p.reached.every w ended.formed [] (ended.bytes ∙ bytes_taken p ∙ sym (append-nil taken)) in
+    no_levels (all_bytes v) b.opens (all_come completes (none_more es x (sym ended.told ∙ told))).0
 
 -- what is still to come of a whole body
 pub still_to_come : {lends : Bool} {v : View} {start size : ℕ} {taken : List ℕ} {es : List value.Event} {b : Body} → Passing lends v start size taken es b → (w : Value) → Declared v start size w →

@@ -30,6 +30,7 @@ pub mod Stretching
 pub mod Heading
 pub mod Bodies
 pub mod Moments
+pub mod Turns
 pub mod Story
 pub mod Opening
 pub mod Closing

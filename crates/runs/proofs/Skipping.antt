@@ -3,7 +3,7 @@ use Rattle.std.proofs.Common.{◌≡◌, ℕ, suc, ◌+◌, ◌<◌, ◌≤◌, 
 use Rattle.std.proofs.lemmas.Bool.{eq-eqb, ne_eqb}
 use Rattle.std.proofs.Math.Seq.{drop-append_seam}
 use Rattle.read.specs.Reader.{View}
-use Rattle.format.specs.Numbers.{latching}
+use Rattle.format.specs.Numbers.{latching, number_of}
 use Rattle.format.specs.declared.refusal.Refusal.{Refusal}
 use Rattle.format.specs.declared.refusal.ReadError.TheVariants as error
 use Rattle.format.specs.declared.refusal.Cause.TheVariants as cause
@@ -18,22 +18,23 @@ use Rattle.de.specs.declared.pdu.Extent.{Extent}
 use Rattle.de.specs.declared.entry.Call.TheVariants as call
 use Rattle.de.specs.declared.entry.Answer.{Answer}
 use Rattle.de.specs.declared.entry.Answer.TheVariants as answer
-use Rattle.de.specs.Steps.{Body, stops, step, counted, moved, Apart}
+use Rattle.de.specs.Steps.{Body, gives, stops, step, counted, moved, Apart}
 use Rattle.de.specs.Calls as calls
 use Rattle.de.specs.Calls.{State, telling, latch_by, here, drawn, drawn_by, drawn_view, Skips, Skip, Skipped, SkipTold, SkipTurn, SkipBy, SkipCall, up_to}
 use Rattle.de.specs.Made.{Moment, Made, SkipAnswer}
-use Rattle.runs.specs.Law.{limits, running, phase_after, stretch, RefusedAgrees, Agrees, KeptOpen, Whole, Reads, Refuses}
+use Rattle.runs.specs.Law.{limits, running, phase, phase_after, first_for_good, deeper, stretch, Stretched, RefusedAgrees, Agrees, Whole, Reads, Turn}
 use Rattle.runs.proofs.Taking.{Level, levels, Front}
 use Rattle.runs.proofs.Coming as coming
 use Rattle.runs.proofs.Coming.{Completes}
-use Rattle.runs.proofs.Stretching.{Runs, last, onward, stretch_of}
+use Rattle.runs.proofs.Stretching.{Runs, last, onward, stretch_on, stretch_of}
 use Rattle.runs.proofs.Stepped.{Stepped, Stopped, Waiting}
 use Rattle.runs.proofs.Stepping.{step_gives, step_stops}
-use Rattle.runs.proofs.Ending.{step_none}
+use Rattle.runs.proofs.Ending.{step_none, step_done}
 use Rattle.runs.proofs.Drawing.{step_draws}
-use Rattle.runs.proofs.Bodies.{all_bytes, Live, Stuck, passing_of, Advanced, advance, counts_one, before_end, after_end, wait, stuck, never_stuck, count_left, same_body, still_to_come}
-use Rattle.runs.proofs.Moments.{latch_none, latch_some, as_told, latched_by, refuses_as}
-use Rattle.runs.proofs.Story.{goes_on, stands_still, Story, story_on, Kept, Tells, quiet, Ongoing, ongoing, stays, unstuck}
+use Rattle.runs.proofs.Bodies.{all_bytes, Live, Stuck, passing_of, Advanced, advance, counts_one, before_end, after_end, wait, stuck, never_stuck, count_left, same_body, none_awaited, still_to_come}
+use Rattle.runs.proofs.Moments.{latch_none, latch_some, as_told, latched_by}
+use Rattle.runs.proofs.Turns.{Untried, again, out_of_turn, untried_free, untried_place, good_number, room_number, in_turn, turn_as}
+use Rattle.runs.proofs.Story.{goes_on, stands_still, Story, story_on, Kept, Tells, quiet, Ongoing, ongoing, stays, in_pdu_now, live_now, unstuck}
 
 -- as deep with the names of the columns as without
 named_nesting : (input : List ℕ) (o : List (Open Column)) → nesting (levels input o) ≡ nesting o
@@ -62,7 +63,7 @@ data SkipEnd (lends : Bool) (v : View) (start size : ℕ) (taken : List ℕ) (es
   done : (more : List Event) (now : List ℕ) {k : ℕ} → Live lends v start size now (es ++ more) t → k ≡ n + length more → StretchPassed lends v start down b t taken now more →
       SkipEnd lends v start size taken es b down n t (Ok k)
   cut : (more : List Event) (now : List ℕ) {f : Refusal} → length taken ≤ length now → start + length now ≤ f.place →
-      Left lends v start size now (es ++ more) f t →
+      Left lends v start size now (es ++ more) f t → ((d : ℕ) → nesting (levels (all_bytes v) b.opens) ≡ down + d → stretch d more ≡ length more) →
       ((w : Value) → Whole lends v start size w → ⊥) → SkipEnd lends v start size taken es b down n t (Err f)
 
 -- where there is no room, nothing was drawn
@@ -79,7 +80,7 @@ module _ {lends : Bool} {v : View} {start size : ℕ} (small : start + size ≤ 
 
   refused_ends : {taken : List ℕ} {es : List Event} {b c t : Body} {down n : ℕ} {f : Refusal} {x : List ℕ} → Live lends v start size taken es b → step lends None b ≡ stops f c x →
       Apart f (drawn lends f c) t → SkipEnd lends v start size taken es b down n t (Err f)
-  refused_ends {taken} {es} {b} {c} {t} {f = f} {x = x} l stop apart = cut [] taken (omega arith) (let after = st.after in let count = l.count in omega arith) (kind st.kind) (never_stuck None l st.more stop (inr refl))
+  refused_ends {taken} {es} {b} {c} {t} {f = f} {x = x} l stop apart = cut [] taken (omega arith) (let after = st.after in let count = l.count in omega arith) (kind st.kind) (λ d at. refl) (never_stuck None l st.more stop (inr refl))
     where
       st : Stopped lends (all_bytes v) b f c
       st = step_stops None b f c x l.ready stop
@@ -104,9 +105,14 @@ module _ {lends : Bool} {v : View} {start size : ℕ} (small : start + size ≤ 
       behind : {more : List Event} → StretchPassed lends v start down c t adv.taken_now now more → StretchPassed lends v start down b t taken now (st.says ∷ more)
       behind (nothing closed same) = absurd (omega (arith, ap nesting closed))
       behind (something runs here) = something (onward (st.takes front fronts) (rw (named_nesting (all_bytes v) c.opens) deep) runs) here
-  one_before {taken} {es} {t = t} st front fronts adv deep one (cut more now {f} grows at left none_whole) =
+  one_before {taken} {es} {b} {c} {t} {down = down} st front fronts adv deep one (cut more now {f} grows at left short none_whole) =
       let grown = adv.grows in
-      cut (st.says ∷ more) now (omega arith) at (subst (λ es. Left lends v start size now es f t) (append_assoc es (st.says ∷ []) more) left) none_whole
+      cut (st.says ∷ more) now (omega arith) at (subst (λ es. Left lends v start size now es f t) (append_assoc es (st.says ∷ []) more) left) longer none_whole
+    where
+      longer : (d : ℕ) → nesting (levels (all_bytes v) b.opens) ≡ down + d → stretch d (st.says ∷ more) ≡ suc (length more)
+      longer d there =
+          let (then, on) = stretch_on d there (st.takes front fronts) (rw (named_nesting (all_bytes v) c.opens) deep) in
+          on more ∙ ap suc (short (deeper d st.says) then)
 
   skip_ends : {down n : ℕ} {b t : Body} {r : Result ℕ Refusal} {taken : List ℕ} {es : List Event} → Skips lends down n b r t → Live lends v start size taken es b → n ≤ length es →
       SkipEnd lends v start size taken es b down n t r
@@ -130,7 +136,7 @@ pub data SkipCame (lends : Bool) (s t : State) (a : Answer) : Type 0 where
       SkipCame lends s t a
   refuses : (o : Extent) → s.pdu ≡ Some o → s.latched ≡ None → (f : Refusal) → Skip lends s.body (Err f) t.body → a ≡ answer.Refused f → t.latched ≡ latch_by f s.latched → t.pdu ≡ s.pdu →
       t.last ≡ s.last → SkipCame lends s t a
-  tells_again : (f : Refusal) → a ≡ answer.Refused f → t ≡ telling f s → up_to s.latched s ≤ f.place → (s.latched ≡ None → (latching f.cause ≡ false) × (s.pdu ≡ None)) → SkipCame lends s t a
+  tells_again : (f : Refusal) → a ≡ answer.Refused f → t ≡ telling f s → Untried s (s.pdu ≡ None) f → SkipCame lends s t a
 
 pub skip_came : {lends : Bool} {s t : State} {a : Answer} → Made (SkipCall lends s) SkipAnswer a t → SkipCame lends s t a
 skip_came {lends} {s} {t} {a} made = by_latch s.latched refl made.meets
@@ -144,18 +150,12 @@ skip_came {lends} {s} {t} {a} made = by_latch s.latched refl made.meets
     by_outcome o own loose pdu end (Err f) skip (comes, latched, told) = refuses o own loose f skip (as_told told (answers comes)) latched pdu end
 
     by_pdu : s.latched ≡ None → (p : Option Extent) → s.pdu ≡ p → SkipTurn p lends s made.result t → SkipCame lends s t a
-    by_pdu loose None own (comes, same) = tells_again (here cause.OutOfTurn s) (as_told (ap (λ t. t.refused) same) (answers comes)) same (rw loose (omega arith)) (λ e. (refl, own))
+    by_pdu loose None own (comes, same) = tells_again (here cause.OutOfTurn s) (as_told (ap (λ t. t.refused) same) (answers comes)) same (out_of_turn loose own refl)
     by_pdu loose (Some o) own skipped = by_outcome o own loose skipped.pdu skipped.last skipped.outcome skipped.body skipped.told
 
     by_latch : (o : Option Refusal) → s.latched ≡ o → SkipBy o lends s made.result t → SkipCame lends s t a
     by_latch None loose meets = by_pdu loose s.pdu refl meets
-    by_latch (Some f) caught (comes, same) = tells_again f (as_told (ap (λ t. t.refused) same) (answers comes)) same (rw caught (omega arith)) (λ e. absurd (cc))
-
--- where no PDU is open, or a call was refused for good, it is refused
-pub skip_refuses : {lends : Bool} {s t : State} {a : Answer} → SkipCame lends s t a → ((o : Extent) → s.pdu ≡ Some o → s.latched ≡ None → ⊥) → Refuses a
-skip_refuses (passes o own loose n skip a latched pdu end) unable = absurd (unable o own loose)
-skip_refuses (refuses o own loose f skip a latched pdu end) unable = refuses_as a
-skip_refuses (tells_again f a same after free) unable = refuses_as a
+    by_latch (Some f) caught (comes, same) = tells_again f (as_told (ap (λ t. t.refused) same) (answers comes)) same (again caught)
 
 -- ---- what it keeps
 
@@ -163,20 +163,24 @@ some_run : {L : Limits} {down : ℕ} {s t : List Level} {es : List Event} → Ru
 some_run (last h low) = omega arith
 some_run (onward h deep r) = omega arith
 
+stretched : (more : List Event) → ((x : List Event) → stretch 0 (more ++ x) ≡ length more) → Stretched more
+stretched [] h = tt
+stretched (e ∷ es) h = h
+
 -- how far the last event that has passed is, and how many have
 passed_right : {lends : Bool} {v : View} {start : ℕ} {b t : Body} {taken now : List ℕ} {more : List Event} {n count : ℕ} → StretchPassed lends v start (nesting b.opens) b t taken now more →
     n ≡ length more → count ≡ t.reader.count →
-    (length more ≡ n) × (stretch 0 more ≡ n) × (start + length now ≡ cond (n == 0) (start + length taken) count)
+    (length more ≡ n) × Stretched more × (start + length now ≡ cond (n == 0) (start + length taken) count)
 passed_right {start = start} {taken = taken} {n = n} {count = count} (nothing closed same) long at =
-    (sym long, sym long, ap (λ now. start + length now) same ∙ sym (ap (λ b. cond b (start + length taken) count) (eq-eqb n 0 long)))
+    (sym long, tt, ap (λ now. start + length now) same ∙ sym (ap (λ b. cond b (start + length taken) count) (eq-eqb n 0 long)))
 passed_right {v = v} {start = start} {b = b} {taken = taken} {more = more} {n = n} {count = count} (something runs there) long at = (
   sym long,
-  ap (stretch 0) (sym (append-nil more)) ∙ stretch_of runs (sym (named_nesting (all_bytes v) b.opens)) [] ∙ sym long,
+  stretched more (stretch_of runs (sym (named_nesting (all_bytes v) b.opens))),
   sym there ∙ sym at ∙ sym (ap (λ b. cond b (start + length taken) count) (ne_eqb n 0 (λ e. (let some = some_run runs in omega arith)))),
 )
 
-calm : (m : Moment) → m.call ≡ call.Skip → phase_after running m.call m.answer ≡ running
-calm m is = ap (λ c. phase_after running c m.answer) is
+calm : (m : Moment) → m.call ≡ call.Skip → (a : Answer) (e : Extent) → phase_after (running e) m.call a ≡ running e
+calm m is a e = ap (λ c. phase_after (running e) c a) is
 
 module _ {lends : Bool} {v : View} {h : List Moment} {s t : State} (k : Kept lends v h s) (m : Moment) (is : m.call ≡ call.Skip) where
   passes_kept : (g : Ongoing lends v h s) → s.latched ≡ None → (n : ℕ) → m.answer ≡ answer.Skipped n → t.latched ≡ s.latched → t.pdu ≡ s.pdu → t.last ≡ s.last → m.count ≡ t.body.reader.count →
@@ -185,32 +189,32 @@ module _ {lends : Bool} {v : View} {h : List Moment} {s t : State} (k : Kept len
       let still = latched ∙ loose in
       let count = live.count in
       record {
-        latch = latch_none h m still live.drawn g.unlatched (subst KeptOpen (sym a) tt);
+        latch = latch_none h m still live.drawn g.unlatched (ap (first_for_good None) a);
         tale = inr (story_on g.story m t more now
             (subst (λ a. Agrees v m a more (g.story.start + length g.story.taken) (g.story.start + length now)) (sym a) (passed_right passed (long ∙ omega arith) counts))
-            (passing_of live) end (rw still (omega arith)) (stays g m t (calm m is) pdu (rw still (goes_on live))));
+            (passing_of live) end (rw still (omega arith)) (stays g m t (calm m is m.answer) pdu (rw still (goes_on live))));
       }
 
   refused_kept : (g : Ongoing lends v h s) → s.latched ≡ None → (f : Refusal) → m.answer ≡ answer.Refused f → t.latched ≡ latch_by f s.latched → t.pdu ≡ s.pdu → t.last ≡ s.last →
       SkipEnd lends v g.story.start g.story.size g.story.taken g.story.es s.body (nesting s.body.opens) 0 t.body (Err f) → Kept lends v (h ++ (m ∷ [])) t
-  refused_kept g loose f a latched pdu end (cut more now grows at left none_whole) = go left
+  refused_kept g loose f a latched pdu end (cut more now grows at left short none_whole) = go left
     where
       agrees : Agrees v m m.answer more (g.story.start + length g.story.taken) (g.story.start + length now)
       agrees = subst (λ a. Agrees v m a more (g.story.start + length g.story.taken) (g.story.start + length now)) (sym a)
-          (subst (λ k. RefusedAgrees k f more (g.story.start + length g.story.taken) (g.story.start + length now)) (sym is) (omega arith, at))
+          (subst (λ k. RefusedAgrees k f more (g.story.start + length g.story.taken) (g.story.start + length now)) (sym is) (short 0 (named_nesting (all_bytes v) s.body.opens ∙ omega arith), omega arith, at))
 
       go : Left lends v g.story.start g.story.size now (g.story.es ++ more) f t.body →
           Kept lends v (h ++ (m ∷ [])) t
       go (inl (latches, stands)) =
           let caught : t.latched ≡ Some f = latched ∙ latched_by s.latched latches in
-          record { latch = latch_some h m caught a latches; tale = inr (story_on g.story m t more now agrees stands.passing end (rw caught at) (stays g m t (calm m is) pdu (rw caught (stands_still stands)))) }
+          record { latch = latch_some h m caught g.unlatched a latches; tale = inr (story_on g.story m t more now agrees stands.passing end (rw caught at) (stays g m t (calm m is m.answer) pdu (rw caught (stands_still stands)))) }
       go (inr (full, live)) =
           let free : latching f.cause ≡ false = ap latching full in
           let still : t.latched ≡ None = latched ∙ ap (λ b. cond b (Some f) s.latched) free ∙ loose in
           let count = live.count in
           record {
-            latch = latch_none h m still live.drawn g.unlatched (subst KeptOpen (sym a) free);
-            tale = inr (story_on g.story m t more now agrees (passing_of live) end (rw still (omega arith)) (stays g m t (calm m is) pdu (rw still (goes_on live))));
+            latch = latch_none h m still live.drawn g.unlatched (ap (first_for_good None) a ∙ ap (λ b. cond b (Some f) None) free);
+            tale = inr (story_on g.story m t more now agrees (passing_of live) end (rw still (omega arith)) (stays g m t (calm m is m.answer) pdu (rw still (goes_on live))));
           }
 
   pub skip_kept : Made (SkipCall lends s) SkipAnswer m.answer t → m.count ≡ t.body.reader.count → Tells m t → Kept lends v (h ++ (m ∷ [])) t
@@ -219,17 +223,36 @@ module _ {lends : Bool} {v : View} {h : List Moment} {s t : State} (k : Kept len
       go : SkipCame lends s t m.answer → Kept lends v (h ++ (m ∷ [])) t
       go (passes o own loose n skip a latched pdu end) = let g = ongoing k loose own in passes_kept g loose n a latched pdu end counts (skip_ends g.story.small skip g.live (omega arith))
       go (refuses o own loose f skip a latched pdu end) = let g = ongoing k loose own in refused_kept g loose f a latched pdu end (skip_ends g.story.small skip g.live (omega arith))
-      go (tells_again f a same after free) =
-          quiet m f k same a (λ e. (free e).0) (calm m is) (λ c i. subst (λ k. RefusedAgrees k f [] c c) (sym is) (omega arith, omega arith)) tells
+      go (tells_again f a same why) =
+          let place = untried_place why in
+          quiet m f k same a (untried_free why) (calm m is (answer.Refused f)) (λ c i. subst (λ k. RefusedAgrees k f [] c c) (sym is) (refl, omega arith, omega arith)) tells
+
+  -- ---- what decides it
+
+  pub skip_turn_right : Made (SkipCall lends s) SkipAnswer m.answer t → Turn s.pdu s.latched call.Skip m.answer
+  skip_turn_right made = go (skip_came made)
+    where
+      number : {v : View} {start size : ℕ} {taken : List ℕ} {es : List Event} {b : Body} {down n : ℕ} {f : Refusal} → SkipEnd lends v start size taken es b down n t.body (Err f) → 3 ≤ number_of f.cause
+      number (cut more now {f} grows at (inl (latches, stands)) short none_whole) = good_number f.cause latches
+      number (cut more now {f} grows at (inr (full, live)) short none_whole) = room_number full
+
+      go : SkipCame lends s t m.answer → Turn s.pdu s.latched call.Skip m.answer
+      go (passes o own loose n skip a latched pdu end) = turn_as s call.Skip m.answer own loose (λ f is. absurd (cc))
+      go (refuses o own loose f skip a latched pdu end) =
+          let g = ongoing k loose own in
+          turn_as s call.Skip m.answer own loose (in_turn a (number (skip_ends g.story.small skip g.live (omega arith))))
+      go (tells_again f a same (again caught)) = turn_as s call.Skip m.answer refl caught a
+      go (tells_again f a same (out_of_turn loose shut is)) = turn_as s call.Skip m.answer shut loose (f, a, ap (λ (f : Refusal). number_of f.cause) is)
 
 -- ---- what it answers over a whole body
 
-pub skip_reads : {lends : Bool} {v : View} {h : List Moment} {s t : State} {a : Answer} (y : Story lends v h s) → y.phase ≡ running → (w : Value) → Whole lends v y.start y.size w →
+pub skip_reads : {lends : Bool} {v : View} {h : List Moment} {s t : State} {a : Answer} (y : Story lends v h s) → phase h ≡ running (record { start = y.start; length = y.size }) → (w : Value) → Whole lends v y.start y.size w →
     Made (SkipCall lends s) SkipAnswer a t →
     Reads lends w y.es call.Skip a
 skip_reads {lends} {v} {h} {s} {t} {a} y on w whole made =
-    let (loose, own, live) = unstuck y on w whole in
-    go loose own live (skip_came made)
+    let (own, i) = in_pdu_now y on in
+    let loose = unstuck i w whole in
+    go loose own (live_now i loose) (skip_came made)
   where
     to_come : (es x : List Event) → events w ≡ es ++ x → drop (length es) (events w) ≡ x
     to_come es x told = rw told (drop-append_seam es x)
@@ -251,5 +274,43 @@ skip_reads {lends} {v} {h} {s} {t} {a} y on w whole made =
     go loose own live (refuses o is free f skip says latched pdu end) = absurd (never (skip_ends y.small skip live (omega arith)))
       where
         never : SkipEnd lends v y.start y.size y.taken y.es s.body (nesting s.body.opens) 0 t.body (Err f) → ⊥
-        never (cut more now grows at left none_whole) = none_whole w whole
-    go loose own live (tells_again f says same after free) = let shut = (free loose).1 in absurd (cc)
+        never (cut more now grows at left short none_whole) = none_whole w whole
+    go loose own live (tells_again f says same (again caught)) = absurd (cc)
+    go loose own live (tells_again f says same (out_of_turn free shut is)) = absurd (cc)
+
+-- ---- where the value has ended
+
+-- where no event comes, none is passed
+none_skipped : {lends : Bool} {down n : ℕ} {b t : Body} {r : Result ℕ Refusal} → Skips lends down n b r t → step lends None b ≡ gives None b [] → r ≡ Ok n
+none_skipped (calls.over gave r t) ended = r
+none_skipped (calls.stuck stop r apart) ended = absurd (cc)
+none_skipped (calls.last gave low r t) ended = absurd (cc)
+none_skipped (calls.onward gave deep m rest) ended = absurd (cc)
+
+pub skip_at_end : {lends : Bool} {v : View} {h : List Moment} {s t : State} {a : Answer} (y : Story lends v h s) → phase h ≡ running (record { start = y.start; length = y.size }) →
+    Made (SkipCall lends s) SkipAnswer a t → s.latched ≡ None → s.body.opens ≡ [] → a ≡ answer.Skipped 0
+skip_at_end {lends} {v} {s = s} {t = t} {a = a} y on made loose closed = let (own, i) = in_pdu_now y on in by own (ended (live_now i loose)) (skip_came made)
+  where
+    ended : Live lends v y.start y.size y.taken y.es s.body → step lends None s.body ≡ gives None s.body []
+    ended live = step_done lends None s.body (none_awaited (all_bytes v) s.body.unread s.body.opens live.ready.waits closed) closed
+
+    by : s.pdu ≡ Some (record { start = y.start; length = y.size }) → step lends None s.body ≡ gives None s.body [] → SkipCame lends s t a → a ≡ answer.Skipped 0
+    by own here (passes o is free n skip says latched pdu end) = let same = none_skipped skip here in let zero : n ≡ 0 = cc in says ∙ ap answer.Skipped zero
+    by own here (refuses o is free f skip says latched pdu end) = let same = none_skipped skip here in absurd (cc)
+    by own here (tells_again f says same (again caught)) = absurd (cc)
+    by own here (tells_again f says same (out_of_turn free shut is)) = absurd (cc)
+
+pub skip_only_there : {lends : Bool} {v : View} {h : List Moment} {s t : State} {a : Answer} → Kept lends v h s → Made (SkipCall lends s) SkipAnswer a t → a ≡ answer.Skipped 0 → s.body.opens ≡ []
+skip_only_there {lends} {v} {s = s} {t = t} {a = a} k made all = go (skip_came made)
+  where
+    ended : {start size : ℕ} {taken : List ℕ} {es : List Event} {b : Body} {down n : ℕ} → SkipEnd lends v start size taken es b down 0 t.body (Ok n) → n ≡ 0 → b.opens ≡ []
+    ended (done more now live long (nothing closed same)) e = closed
+    ended (done more now live long (something runs there)) e = absurd (let some = some_run runs in omega arith)
+
+    go : SkipCame lends s t a → s.body.opens ≡ []
+    go (passes o own loose n skip says latched pdu end) =
+        let zero : n ≡ 0 = cc in
+        let g = ongoing k loose own in
+        ended (skip_ends g.story.small skip g.live (omega arith)) zero
+    go (refuses o own loose f skip says latched pdu end) = absurd (cc)
+    go (tells_again f says same why) = absurd (cc)
