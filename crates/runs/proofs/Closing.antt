@@ -19,14 +19,14 @@ use Rattle.de.specs.declared.entry.Answer.TheVariants as answer
 use Rattle.de.specs.Steps.{Body}
 use Rattle.de.specs.Calls.{State, Meets, gave, telling, latch, here, shut, refusing, finished, finished_by, close_by, close_own, close_call, owns, up_to}
 use Rattle.de.specs.Made.{Moment, Made, CloseAnswer, token}
-use Rattle.runs.specs.Law.{running, over, phase, phase_after, close_phase, first_for_good, RefusedAgrees, Agrees, Declared, Closes, Again, Turn}
+use Rattle.runs.specs.Law.{lent_bytes, running, over, phase, phase_after, close_phase, first_for_good, RefusedAgrees, Agrees, Declared, Closes, Again, Turn}
 use Rattle.runs.proofs.Taking.{levels}
 use Rattle.runs.proofs.Coming.{all_come}
 use Rattle.runs.proofs.Reached.{Reached, whole_body}
 use Rattle.runs.proofs.Made.{none_ahead}
-use Rattle.runs.proofs.Bodies.{all_bytes, Passing, passing_still, no_levels, none_more, none_awaited, still_to_come}
+use Rattle.runs.proofs.Bodies.{Passing, passing_still, no_levels, none_more, none_awaited, still_to_come}
 use Rattle.runs.proofs.Moments.{drawn_of, latched_first, latches_of, latch_none, latch_some, latch_still, agrees_refused, as_told, latched_by}
-use Rattle.runs.proofs.Turns.{good_number, in_turn}
+use Rattle.runs.proofs.Turns.{good_number, for_good_only}
 use Rattle.runs.proofs.Story.{Untouched, InPdu, goes_on, stands_still, Stands, in_pdu, behind_it, off_it, Story, story_still, running_inside, Kept, Tells, same_place, quiet, in_pdu_now}
 
 -- ---- what a call of close comes to
@@ -100,7 +100,7 @@ not_the_token c h = let many = good_number c h in ne_eqb (number_of c) 2 (λ e. 
 module _ {lends : Bool} {v : View} {h : List Moment} {s : State} (k : Kept lends v h s) (m : Moment) {e : Extent} (is : m.call ≡ call.Close e) where
   -- the PDU has been closed
   over_kept : s.pdu ≡ Some e → (t : State) → t.body ≡ s.body → t.pdu ≡ None → t.last ≡ s.last → up_to s.latched s ≤ up_to t.latched t → close_phase (running e) m.answer ≡ over e →
-      ((c : ℕ) → Agrees v m m.answer [] c c) → Story lends v (h ++ (m ∷ [])) t
+      ((c : ℕ) → Agrees lends v m m.answer [] c c) → Story lends v (h ++ (m ∷ [])) t
   over_kept own t body pdu last after ends agrees = go k.tale
     where
       stands : {start size : ℕ} {taken : List ℕ} {es : List Event} → Stands lends v start size taken es s (phase h) → Stands lends v start size taken es t (phase_after (phase h) m.call m.answer)
@@ -120,8 +120,8 @@ module _ {lends : Bool} {v : View} {h : List Moment} {s : State} (k : Kept lends
   pub close_kept : {t : State} → Made (Meets (close_call (token 0 e) s)) CloseAnswer m.answer t → Tells m t → Kept lends v (h ++ (m ∷ [])) t
   close_kept {t} made tells = go (close_came made)
     where
-      agrees : {f : Refusal} → m.answer ≡ answer.Refused f → (c : ℕ) → Agrees v m m.answer [] c c
-      agrees {f} a c = agrees_refused v m c a (subst (λ k. RefusedAgrees k f [] c c) (sym is) (refl, refl))
+      agrees : {f : Refusal} → m.answer ≡ answer.Refused f → (c : ℕ) → Agrees lends v m m.answer [] c c
+      agrees {f} a c = agrees_refused lends v m c a (subst (λ k. RefusedAgrees k f [] c c) (sym is) (refl, refl))
 
       ended : {f : Refusal} → m.answer ≡ answer.Refused f → latching f.cause ≡ true → close_phase (running e) m.answer ≡ over e
       ended {f} a l = ap (close_phase (running e)) a ∙ ap (λ b. cond b (running e) (over e)) (not_the_token f.cause l)
@@ -129,7 +129,7 @@ module _ {lends : Bool} {v : View} {h : List Moment} {s : State} (k : Kept lends
       go : CloseCame e s t m.answer → Kept lends v (h ++ (m ∷ [])) t
       go (closes own loose done there a same) = subst (λ t. Kept lends v (h ++ (m ∷ [])) t) (sym same) (record {
         latch = latch_none h m loose (drawn_of k.latch loose) (sym (latched_first k.latch) ∙ loose) (ap (first_for_good None) a);
-        tale = inr (over_kept own (shut s) refl refl refl (rw (same_place s.latched s (shut s) refl) (omega arith)) (ap (close_phase (running e)) a) (λ c. subst (λ a. Agrees v m a [] c c) (sym a) (refl, refl)));
+        tale = inr (over_kept own (shut s) refl refl refl (rw (same_place s.latched s (shut s) refl) (omega arith)) (ap (close_phase (running e)) a) (λ c. subst (λ a. Agrees lends v m a [] c c) (sym a) (refl, refl)));
       })
       go (refuses own loose why f place latches a same) =
           let caught : (telling f (latch f (shut s))).latched ≡ Some f = latched_by s.latched latches in
@@ -154,8 +154,8 @@ module _ {lends : Bool} {v : View} {h : List Moment} {s : State} (k : Kept lends
     where
       go : CloseCame e s t m.answer → Turn s.pdu s.latched (call.Close e) m.answer
       go (closes own loose done there a same) = inl (own, λ f is. absurd (cc), subst (λ o. Again o m.answer) (sym loose) tt)
-      go (refuses own loose why f place latches a same) = inl (own, in_turn a (good_number f.cause latches), subst (λ o. Again o m.answer) (sym loose) tt)
-      go (refuses_again own f caught a same) = inl (own, in_turn a (good_number f.cause (latches_of k.latch caught)), subst (λ o. Again o m.answer) (sym caught) a)
+      go (refuses own loose why f place latches a same) = inl (own, for_good_only a latches, subst (λ o. Again o m.answer) (sym loose) tt)
+      go (refuses_again own f caught a same) = inl (own, for_good_only a (latches_of k.latch caught), subst (λ o. Again o m.answer) (sym caught) a)
       go (another why f a same is_token) = inr (why, (f, a, ap number_of is_token))
 
 -- ---- when it accepts
@@ -166,7 +166,7 @@ whole_passed : {lends : Bool} {v : View} {start size : ℕ} {taken : List ℕ} {
 whole_passed {lends} {v} {start} {size} {taken} {es} {b} p w declared all =
     let (r, x, body, told, completes) = still_to_come p w declared in
     let (ended, none) = all_come completes (none_more es x (all ∙ told)) in
-    (no_levels (all_bytes v) b.opens ended, sym (ap length (body ∙ ap (λ r. taken ++ r) none ∙ append-nil taken)) ∙ declared.long)
+    (no_levels (lent_bytes lends v) b.opens ended, sym (ap length (body ∙ ap (λ r. taken ++ r) none ∙ append-nil taken)) ∙ declared.long)
 
 all_passed : (b : Body) → finished b ≡ true → (b.unread ≡ None) × (b.opens ≡ [])
 all_passed b h = by b.unread b.opens refl refl h
@@ -202,7 +202,7 @@ closes_right {lends} {v} {h} {s} {t} {a} y on made =
             let short = ap length none in
             let count = live.count in
             let full : length y.taken ≡ y.size = omega arith in
-            let (w, formed, body, told) = whole_body (subst (λ o. Reached lends y.taken y.es (levels (all_bytes v) o)) closed live.reached) in
+            let (w, formed, body, told) = whole_body (subst (λ o. Reached lends y.taken y.es (levels (lent_bytes lends v) o)) closed live.reached) in
             let (number, long) = same_closed (sym is ∙ b) in (
               number ∙ live.counts,
               long,
@@ -224,7 +224,7 @@ closes_right {lends} {v} {h} {s} {t} {a} y on made =
     accepts caught own (stands_still st) came w declared all = absurd (st.more (whole_passed st.passing w declared all).0)
     accepts loose own (goes_on live) came w declared all =
         let (closed, long) = whole_passed y.passing w declared all in
-        let calm = none_awaited (all_bytes v) s.body.unread s.body.opens live.ready.waits closed in
+        let calm = none_awaited (lent_bytes lends v) s.body.unread s.body.opens live.ready.waits closed in
         let short = ap length (none_ahead live.fronts calm) in
         let count = live.count in
         let there : s.body.reader.count ≡ y.start + y.size = omega arith in

@@ -36,8 +36,8 @@ for_good_last o (x ∷ h) m = for_good_last (first_for_good o x.answer) h m
 pub as_told : {o : Option Refusal} {f : Refusal} {a : Answer} → o ≡ Some f → AsTold o a → a ≡ answer.Refused f
 as_told {a = a} e told = subst (λ o. AsTold o a) e told
 
-pub agrees_refused : (v : View) (m : Moment) {f : Refusal} (c : ℕ) → m.answer ≡ answer.Refused f → RefusedAgrees m.call f [] c c → Agrees v m m.answer [] c c
-agrees_refused v m c a agrees = subst (λ a. Agrees v m a [] c c) (sym a) agrees
+pub agrees_refused : (lends : Bool) (v : View) (m : Moment) {f : Refusal} (c : ℕ) → m.answer ≡ answer.Refused f → RefusedAgrees m.call f [] c c → Agrees lends v m m.answer [] c c
+agrees_refused lends v m c a agrees = subst (λ a. Agrees lends v m a [] c c) (sym a) agrees
 
 -- ---- whether a call was refused for good
 

@@ -20,13 +20,13 @@ use Rattle.de.specs.Shown.{shown}
 use Rattle.de.specs.Steps.{Body, Out, gives, stops, step, puts}
 use Rattle.de.specs.Calls.{State, Meets, Off, telling, latch, here, in_body, next_by, next_turn, next_call, next_puts, turn_puts, unless_latched}
 use Rattle.de.specs.Made.{Moment, Made, NextAnswer}
-use Rattle.runs.specs.Law.{running, phase, phase_after, first_for_good, RefusedAgrees, Agrees, Whole, hands_out, Cramped, Reads, Turn}
+use Rattle.runs.specs.Law.{lent_bytes, running, phase, phase_after, first_for_good, RefusedAgrees, Agrees, Whole, hands_out, Cramped, Reads, Turn}
 use Rattle.runs.proofs.Stepped.{Stepped, Stopped, Waiting, Tight, can_give, must_wait}
 use Rattle.runs.proofs.Stepping.{step_gives, step_stops}
 use Rattle.runs.proofs.Ending.{step_none, step_done}
-use Rattle.runs.proofs.Bodies.{all_bytes, Live, passing_of, Advanced, advance, stopped_inside, wait, stuck, count_left, same_body, Outlook, none_awaited, at_the_end, more_comes, outlook}
+use Rattle.runs.proofs.Bodies.{Live, passing_of, Advanced, advance, stopped_inside, wait, stuck, count_left, same_body, Outlook, none_awaited, at_the_end, more_comes, outlook}
 use Rattle.runs.proofs.Moments.{latch_none, latch_some, agrees_refused, as_told, latched_by}
-use Rattle.runs.proofs.Turns.{Untried, again, out_of_turn, untried_free, good_number, room_number, in_turn, turn_as}
+use Rattle.runs.proofs.Turns.{Untried, again, out_of_turn, untried_free, for_good_or_room, turn_as}
 use Rattle.runs.proofs.Story.{goes_on, stands_still, Story, story_on, story_still, Kept, Tells, quiet, Ongoing, ongoing, stays, in_pdu_now, live_now, unstuck}
 
 -- ---- what a call of next comes to
@@ -72,33 +72,33 @@ module _ {lends : Bool} {v : View} {h : List Moment} {s : State} (k : Kept lends
   one_kept g loose e c x buf gave a text counts = record {
     latch = latch_none h m loose adv.live.drawn g.unlatched (ap (first_for_good None) a);
     tale = inr (story_on g.story m (in_body s c) (st.says ∷ []) adv.taken_now
-        (subst (λ a. Agrees v m a (st.says ∷ []) (g.story.start + length g.story.taken) (g.story.start + length adv.taken_now)) (sym a) (ap (λ t. t ∷ []) shows, sym adv.here ∙ sym counts))
+        (subst (λ a. Agrees lends v m a (st.says ∷ []) (g.story.start + length g.story.taken) (g.story.start + length adv.taken_now)) (sym a) (ap (λ t. t ∷ []) shows, sym adv.here ∙ sym counts))
         (passing_of adv.live) refl (rw loose (let at = adv.here in omega arith)) (stays g m (in_body s c) (calm m.answer) refl (rw loose (goes_on adv.live))));
   }
     where
-      st : Stepped lends (all_bytes v) s.body e c x
+      st : Stepped lends (lent_bytes lends v) s.body e c x
       st = step_gives (Some room) s.body e c x g.live.ready gave
 
       adv : Advanced lends v g.story.start g.story.size g.story.taken (g.story.es ++ (st.says ∷ [])) c
       adv = advance g.story.small g.live st
 
-      shows : st.says ≡ shown (all_bytes v) m.text e
+      shows : st.says ≡ shown (lent_bytes lends v) m.text e
       shows = sym (rw text (st.shows buf))
 
   refused_kept : (g : Ongoing lends v h s) → s.latched ≡ None → (t : State) (f : Refusal) (c : Body) (x : List ℕ) → step lends (Some room) s.body ≡ stops f c x → m.answer ≡ answer.Refused f →
       Off f (latch f (in_body s c)) t → Kept lends v (h ++ (m ∷ [])) t
   refused_kept g loose t f c x stop a off = go st.kind
     where
-      st : Stopped lends (all_bytes v) s.body f c
+      st : Stopped lends (lent_bytes lends v) s.body f c
       st = step_stops (Some room) s.body f c x g.live.ready stop
 
-      agrees : (d : ℕ) → Agrees v m m.answer [] d d
-      agrees d = agrees_refused v m d a (subst (λ k. RefusedAgrees k f [] d d) (sym is) (refl, refl))
+      agrees : (d : ℕ) → Agrees lends v m m.answer [] d d
+      agrees d = agrees_refused lends v m d a (subst (λ k. RefusedAgrees k f [] d d) (sym is) (refl, refl))
 
       counts : t.body.reader.count ≡ c.reader.count
       counts = count_left f.cause c.reader t.body.reader off.body.reader
 
-      go : (latching f.cause ≡ true) ⊎ ((f.cause ≡ cause.Read error.Room) × Waiting lends (all_bytes v) s.body c) → Kept lends v (h ++ (m ∷ [])) t
+      go : (latching f.cause ≡ true) ⊎ ((f.cause ≡ cause.Read error.Room) × Waiting lends (lent_bytes lends v) s.body c) → Kept lends v (h ++ (m ∷ [])) t
       go (inl latches) =
           let caught : t.latched ≡ Some f = off.latched ∙ latched_by s.latched latches in
           let stands = stuck (Some room) g.live st stop latches t.body off.body.opens off.body.events (rw counts (stopped_inside g.live st)) in
@@ -116,7 +116,7 @@ module _ {lends : Bool} {v : View} {h : List Moment} {s : State} (k : Kept lends
   none_kept : (g : Ongoing lends v h s) → s.latched ≡ None → m.answer ≡ answer.Done → Kept lends v (h ++ (m ∷ [])) s
   none_kept g loose a = record {
     latch = latch_none h m loose g.drawn g.unlatched (ap (first_for_good None) a);
-    tale = inr (story_still g.story m s (subst (λ a. Agrees v m a [] (g.story.start + length g.story.taken) (g.story.start + length g.story.taken)) (sym a) (refl, refl)) g.story.passing refl g.story.after
+    tale = inr (story_still g.story m s (subst (λ a. Agrees lends v m a [] (g.story.start + length g.story.taken) (g.story.start + length g.story.taken)) (sym a) (refl, refl)) g.story.passing refl g.story.after
         (stays g m s (calm m.answer) refl (rw loose (goes_on g.live))));
   }
 
@@ -137,16 +137,16 @@ module _ {lends : Bool} {v : View} {h : List Moment} {s : State} (k : Kept lends
   pub next_turn_right : {t : State} → Made (Meets (next_call lends room s)) NextAnswer m.answer t → Turn s.pdu s.latched (call.Next room) m.answer
   next_turn_right {t} made = go (next_came made)
     where
-      number : {A : Type 0} (f : Refusal) → (latching f.cause ≡ true) ⊎ ((f.cause ≡ cause.Read error.Room) × A) → 3 ≤ number_of f.cause
-      number f (inl latches) = good_number f.cause latches
-      number f (inr (full, rest)) = room_number full
+      number : {A : Type 0} (f : Refusal) → (latching f.cause ≡ true) ⊎ ((f.cause ≡ cause.Read error.Room) × A) → (latching f.cause ≡ true) ⊎ (number_of f.cause ≡ 14)
+      number f (inl latches) = inl latches
+      number f (inr (full, rest)) = inr (ap number_of full)
 
       go : NextCame lends room s t m.answer → Turn s.pdu s.latched (call.Next room) m.answer
       go (one o own loose e c x gave put a same) = turn_as s (call.Next room) m.answer own loose (λ f is. absurd (cc))
       go (none o own loose c x gave a same) = turn_as s (call.Next room) m.answer own loose (λ f is. absurd (cc))
       go (refuses o own loose f c x stop a off) =
           let g = ongoing k loose own in
-          turn_as s (call.Next room) m.answer own loose (in_turn a (number f (step_stops (Some room) s.body f c x g.live.ready stop).kind))
+          turn_as s (call.Next room) m.answer own loose (for_good_or_room a (number f (step_stops (Some room) s.body f c x g.live.ready stop).kind))
       go (tells_again f a same (again caught)) = turn_as s (call.Next room) m.answer refl caught a
       go (tells_again f a same (out_of_turn loose shut is)) = turn_as s (call.Next room) m.answer shut loose (f, a, ap (λ (f : Refusal). number_of f.cause) is)
 
@@ -191,7 +191,7 @@ next_reads {lends} {v} {h} {s} {t} {a} {room} y on w whole made =
     go : s.latched ≡ None → s.pdu ≡ Some (record { start = y.start; length = y.size }) → Live lends v y.start y.size y.taken y.es s.body → Outlook lends (Some room) s.body y.es w →
         Reads lends w y.es (call.Next room) a
     go loose own live (at_the_end done all) =
-        let calm = none_awaited (all_bytes v) s.body.unread s.body.opens live.ready.waits done in
+        let calm = none_awaited (lent_bytes lends v) s.body.unread s.body.opens live.ready.waits done in
         let says : a ≡ answer.Done = answered_by (gives None s.body []) loose own (step_done lends (Some room) s.body calm done) (next_came made) in
         record {
           done = λ e. all;
@@ -222,7 +222,7 @@ pub next_at_end : {lends : Bool} {v : View} {h : List Moment} {s t : State} {a :
     Made (Meets (next_call lends room s)) NextAnswer a t → s.latched ≡ None → s.body.opens ≡ [] → a ≡ answer.Done
 next_at_end {lends} {v} {s = s} room y on made loose done =
     let (own, i) = in_pdu_now y on in
-    let calm = none_awaited (all_bytes v) s.body.unread s.body.opens (live_now i loose).ready.waits done in
+    let calm = none_awaited (lent_bytes lends v) s.body.unread s.body.opens (live_now i loose).ready.waits done in
     answered_by (gives None s.body []) loose own (step_done lends (Some room) s.body calm done) (next_came made)
 
 pub next_only_there : (lends : Bool) (room : ℕ) (s : State) {t : State} {a : Answer} → Made (Meets (next_call lends room s)) NextAnswer a t → a ≡ answer.Done →

@@ -17,22 +17,22 @@ use Rattle.de.specs.declared.entry.Answer.{Answer}
 use Rattle.de.specs.declared.entry.Answer.TheVariants as answer
 use Rattle.de.specs.Calls.{State, Meets, Off, telling, latch, here, opened, unopened, open_by, open_turn, open_call, unless_latched}
 use Rattle.de.specs.Made.{Moment, Made, OpenAnswer}
-use Rattle.runs.specs.Law.{from, limits, Phase, none_yet, running, over, left, open_phase, phase, phase_after, open_pdu, first_for_good, for_good, RefusedAgrees, opens, count_after, HeaderAt, Opens, Turn}
+use Rattle.runs.specs.Law.{lent_bytes, from, limits, Phase, none_yet, running, over, left, open_phase, phase, phase_after, open_pdu, first_for_good, for_good, RefusedAgrees, opens, count_after, HeaderAt, Opens, Turn}
 use Rattle.runs.proofs.Reached.{reached_first}
 use Rattle.runs.proofs.Taking.{none_taken}
 use Rattle.runs.proofs.Stepped.{Solid}
 use Rattle.runs.proofs.Took.{solid_on}
 use Rattle.runs.proofs.Reading.{Comes, Halted}
 use Rattle.runs.proofs.Heading.{Headed, from_here, header_reads, header_there}
-use Rattle.runs.proofs.Bodies.{all_bytes, Drawn, drawn_more, from_count, Live, passing_of, passing_still}
+use Rattle.runs.proofs.Bodies.{Drawn, drawn_more, from_count, Live, passing_of, passing_still}
 use Rattle.runs.proofs.Moments.{phase_last, drawn_of, latched_first, latch_none, latch_some, agrees_refused, as_told, latched_by}
-use Rattle.runs.proofs.Turns.{Untried, again, out_of_turn, untried_free, good_number, in_turn, turn_as}
+use Rattle.runs.proofs.Turns.{Untried, again, out_of_turn, untried_free, for_good_only, turn_as}
 use Rattle.runs.proofs.Story.{goes_on, Stands, in_pdu, behind_it, off_it, Story, story_still, Untouched, untouched_on, Kept, pdu_told, Tells, quiet}
 
-solid_first : {lends : Bool} {v : View} → Sound lends v → Solid lends (all_bytes v) v
-solid_first s = record { octets = s.octets; kept_all = s.kept_all; whole = λ e. refl }
+solid_first : {lends : Bool} {v : View} → Sound lends v → Solid lends (lent_bytes lends v) v
+solid_first s = record { octets = s.octets; kept_all = s.kept_all; whole = ap (λ b. lent_bytes b _) }
 
-solid_drawn : {lends : Bool} {v w : View} → Sound lends v → Drawn lends v w → Solid lends (all_bytes v) w
+solid_drawn : {lends : Bool} {v w : View} → Sound lends v → Drawn lends v w → Solid lends (lent_bytes lends v) w
 solid_drawn s d = solid_on d.took (solid_first s)
 
 -- a header stands before the reader where it stands in the bytes that were there at first
@@ -148,7 +148,7 @@ module _ {lends : Bool} {v : View} {h : List Moment} {s : State} (sound : Sound 
       go (inl u) = inl (untouched_on u m t a off.pdu off.body.events off.last tells)
       go (inr y) =
           let c = y.start + length y.taken in
-          inr (story_still y m t (agrees_refused v m c a (subst (λ k. RefusedAgrees k f [] c c) (sym is) (refl, refl))) (passing_still y.passing off.body.opens off.body.events) off.last
+          inr (story_still y m t (agrees_refused lends v m c a (subst (λ k. RefusedAgrees k f [] c c) (sym is) (refl, refl))) (passing_still y.passing off.body.opens off.body.events) off.last
           (rw latched (let after = rw loose at y.after in let place = un.after in omega arith)) (off_it (gone y.stands) (off.pdu ∙ shut)))
 
   pub open_kept : m.call ≡ call.Open → Made (Meets (open_call lends s)) OpenAnswer m.answer t → m.count ≡ t.body.reader.count → Tells m t → Kept lends v (h ++ (m ∷ [])) t
@@ -203,6 +203,6 @@ module _ {lends : Bool} {v : View} {h : List Moment} {s : State} (sound : Sound 
     where
       go : OpenCame lends s t m.answer → Turn s.pdu s.latched call.Open m.answer
       go (begins loose shut e w read a same) = turn_as s call.Open m.answer shut loose (λ f is. absurd (cc))
-      go (refuses loose shut f w read a off) = let halted = header_came loose read in turn_as s call.Open m.answer shut loose (in_turn a (good_number f.cause halted.latches))
+      go (refuses loose shut f w read a off) = let halted = header_came loose read in turn_as s call.Open m.answer shut loose (for_good_only a halted.latches)
       go (tells_again f a same (again caught)) = turn_as s call.Open m.answer refl caught a
       go (tells_again f a same (out_of_turn loose (e, own) is)) = turn_as s call.Open m.answer own loose (f, a, ap (λ (f : Refusal). number_of f.cause) is)

@@ -22,7 +22,7 @@ use Rattle.de.specs.Steps.{Body, gives, stops, step, counted, moved, Apart}
 use Rattle.de.specs.Calls as calls
 use Rattle.de.specs.Calls.{State, telling, latch_by, here, drawn, drawn_by, drawn_view, Skips, Skip, Skipped, SkipTold, SkipTurn, SkipBy, SkipCall, up_to}
 use Rattle.de.specs.Made.{Moment, Made, SkipAnswer}
-use Rattle.runs.specs.Law.{limits, running, phase, phase_after, first_for_good, deeper, stretch, Stretched, RefusedAgrees, Agrees, Whole, Reads, Turn}
+use Rattle.runs.specs.Law.{lent_bytes, limits, running, phase, phase_after, first_for_good, deeper, stretch, Stretched, RefusedAgrees, Agrees, Whole, Reads, Turn}
 use Rattle.runs.proofs.Taking.{Level, levels, Front}
 use Rattle.runs.proofs.Coming as coming
 use Rattle.runs.proofs.Coming.{Completes}
@@ -31,9 +31,9 @@ use Rattle.runs.proofs.Stepped.{Stepped, Stopped, Waiting}
 use Rattle.runs.proofs.Stepping.{step_gives, step_stops}
 use Rattle.runs.proofs.Ending.{step_none, step_done}
 use Rattle.runs.proofs.Drawing.{step_draws}
-use Rattle.runs.proofs.Bodies.{all_bytes, Live, Stuck, passing_of, Advanced, advance, counts_one, before_end, after_end, wait, stuck, never_stuck, count_left, same_body, none_awaited, still_to_come}
+use Rattle.runs.proofs.Bodies.{Live, Stuck, passing_of, Advanced, advance, counts_one, before_end, after_end, wait, stuck, never_stuck, count_left, same_body, none_awaited, still_to_come}
 use Rattle.runs.proofs.Moments.{latch_none, latch_some, as_told, latched_by}
-use Rattle.runs.proofs.Turns.{Untried, again, out_of_turn, untried_free, untried_place, good_number, room_number, in_turn, turn_as}
+use Rattle.runs.proofs.Turns.{Untried, again, out_of_turn, untried_free, untried_place, for_good_or_room, turn_as}
 use Rattle.runs.proofs.Story.{goes_on, stands_still, Story, story_on, Kept, Tells, quiet, Ongoing, ongoing, stays, in_pdu_now, live_now, unstuck}
 
 -- as deep with the names of the columns as without
@@ -52,7 +52,7 @@ named_nesting input (cell l ks n ∷ o) = ap (λ n. suc (suc n)) (named_nesting 
 -- a skip has passed these events: none where all had passed, or a whole stretch
 data StretchPassed (lends : Bool) (v : View) (start : ℕ) (down : ℕ) (b t : Body) (taken now : List ℕ) : List Event → Type 0 where
   nothing : b.opens ≡ [] → now ≡ taken → StretchPassed lends v start down b t taken now []
-  something : {more : List Event} → Runs (limits lends) down (levels (all_bytes v) b.opens) more (levels (all_bytes v) t.opens) → t.reader.count ≡ start + length now →
+  something : {more : List Event} → Runs (limits lends) down (levels (lent_bytes lends v) b.opens) more (levels (lent_bytes lends v) t.opens) → t.reader.count ≡ start + length now →
       StretchPassed lends v start down b t taken now more
 
 -- what a refusal leaves: a body that goes on no more, or one that awaits a text
@@ -63,7 +63,7 @@ data SkipEnd (lends : Bool) (v : View) (start size : ℕ) (taken : List ℕ) (es
   done : (more : List Event) (now : List ℕ) {k : ℕ} → Live lends v start size now (es ++ more) t → k ≡ n + length more → StretchPassed lends v start down b t taken now more →
       SkipEnd lends v start size taken es b down n t (Ok k)
   cut : (more : List Event) (now : List ℕ) {f : Refusal} → length taken ≤ length now → start + length now ≤ f.place →
-      Left lends v start size now (es ++ more) f t → ((d : ℕ) → nesting (levels (all_bytes v) b.opens) ≡ down + d → stretch d more ≡ length more) →
+      Left lends v start size now (es ++ more) f t → ((d : ℕ) → nesting (levels (lent_bytes lends v) b.opens) ≡ down + d → stretch d more ≡ length more) →
       ((w : Value) → Whole lends v start size w → ⊥) → SkipEnd lends v start size taken es b down n t (Err f)
 
 -- where there is no room, nothing was drawn
@@ -82,13 +82,13 @@ module _ {lends : Bool} {v : View} {start size : ℕ} (small : start + size ≤ 
       Apart f (drawn lends f c) t → SkipEnd lends v start size taken es b down n t (Err f)
   refused_ends {taken} {es} {b} {c} {t} {f = f} {x = x} l stop apart = cut [] taken (omega arith) (let after = st.after in let count = l.count in omega arith) (kind st.kind) (λ d at. refl) (never_stuck None l st.more stop (inr refl))
     where
-      st : Stopped lends (all_bytes v) b f c
+      st : Stopped lends (lent_bytes lends v) b f c
       st = step_stops None b f c x l.ready stop
 
       inside : t.reader.count ≤ start + size
       inside = rw (count_left f.cause (drawn lends f c).reader t.reader apart.reader) (after_end (drawn lends f c).reader.count l (rw (← st.end) (step_draws lends None b f c x stop (rw st.end (st.inside (before_end l))))))
 
-      kind : (latching f.cause ≡ true) ⊎ ((f.cause ≡ cause.Read error.Room) × Waiting lends (all_bytes v) b c) →
+      kind : (latching f.cause ≡ true) ⊎ ((f.cause ≡ cause.Read error.Room) × Waiting lends (lent_bytes lends v) b c) →
           Left lends v start size taken (es ++ []) f t
       kind (inl latches) = inl (latches, rw (append-nil es) (stuck None l st stop latches t apart.opens apart.events inside))
       kind (inr (full, waiting)) =
@@ -96,7 +96,7 @@ module _ {lends : Bool} {v : View} {start size : ℕ} (small : start + size ≤ 
           inr (full, rw (append-nil es) (subst (λ b. Live lends v start size taken es b) (sym same) (wait l st waiting)))
 
   -- an event more before what passes
-  one_before : {taken : List ℕ} {es : List Event} {b c t : Body} {e : event.Event} {down n m : ℕ} {r : Result ℕ Refusal} {x : List ℕ} (st : Stepped lends (all_bytes v) b e c x) (front : List ℕ) →
+  one_before : {taken : List ℕ} {es : List Event} {b c t : Body} {e : event.Event} {down n m : ℕ} {r : Result ℕ Refusal} {x : List ℕ} (st : Stepped lends (lent_bytes lends v) b e c x) (front : List ℕ) →
       Front b.unread front →
       (adv : Advanced lends v start size taken (es ++ (st.says ∷ [])) c) → down < nesting c.opens → m ≡ suc n → SkipEnd lends v start size adv.taken_now (es ++ (st.says ∷ [])) c down m t r → SkipEnd lends v start size taken es b down n t r
   one_before {taken} {es} {b} {c} {t} {down = down} st front fronts adv deep one (done more now live long passed) =
@@ -104,14 +104,14 @@ module _ {lends : Bool} {v : View} {start size : ℕ} (small : start + size ≤ 
     where
       behind : {more : List Event} → StretchPassed lends v start down c t adv.taken_now now more → StretchPassed lends v start down b t taken now (st.says ∷ more)
       behind (nothing closed same) = absurd (omega (arith, ap nesting closed))
-      behind (something runs here) = something (onward (st.takes front fronts) (rw (named_nesting (all_bytes v) c.opens) deep) runs) here
+      behind (something runs here) = something (onward (st.takes front fronts) (rw (named_nesting (lent_bytes lends v) c.opens) deep) runs) here
   one_before {taken} {es} {b} {c} {t} {down = down} st front fronts adv deep one (cut more now {f} grows at left short none_whole) =
       let grown = adv.grows in
       cut (st.says ∷ more) now (omega arith) at (subst (λ es. Left lends v start size now es f t) (append_assoc es (st.says ∷ []) more) left) longer none_whole
     where
-      longer : (d : ℕ) → nesting (levels (all_bytes v) b.opens) ≡ down + d → stretch d (st.says ∷ more) ≡ suc (length more)
+      longer : (d : ℕ) → nesting (levels (lent_bytes lends v) b.opens) ≡ down + d → stretch d (st.says ∷ more) ≡ suc (length more)
       longer d there =
-          let (then, on) = stretch_on d there (st.takes front fronts) (rw (named_nesting (all_bytes v) c.opens) deep) in
+          let (then, on) = stretch_on d there (st.takes front fronts) (rw (named_nesting (lent_bytes lends v) c.opens) deep) in
           on more ∙ ap suc (short (deeper d st.says) then)
 
   skip_ends : {down n : ℕ} {b t : Body} {r : Result ℕ Refusal} {taken : List ℕ} {es : List Event} → Skips lends down n b r t → Live lends v start size taken es b → n ≤ length es →
@@ -123,7 +123,7 @@ module _ {lends : Bool} {v : View} {start size : ℕ} (small : start + size ≤ 
   skip_ends {down} {n} {b} {taken = taken} {es = es} (calls.last {c = c} {e = e} {x = x} gave low r t) l few =
       let st = step_gives None b e c x l.ready gave in
       let adv = advance small l st in
-      rw (r, t) (done (st.says ∷ []) adv.taken_now {k = counted n} adv.live (rw (counts_one n small l few) (omega arith)) (something (last (st.takes l.front l.fronts) (rw (named_nesting (all_bytes v) c.opens) low)) adv.here))
+      rw (r, t) (done (st.says ∷ []) adv.taken_now {k = counted n} adv.live (rw (counts_one n small l few) (omega arith)) (something (last (st.takes l.front l.fronts) (rw (named_nesting (lent_bytes lends v) c.opens) low)) adv.here))
   skip_ends {down} {n} {b} {taken = taken} {es = es} (calls.onward {c = c} {e = e} {x = x} gave deep m rest) l few =
       let st = step_gives None b e c x l.ready gave in
       let adv = advance small l st in
@@ -175,7 +175,7 @@ passed_right {start = start} {taken = taken} {n = n} {count = count} (nothing cl
     (sym long, tt, ap (λ now. start + length now) same ∙ sym (ap (λ b. cond b (start + length taken) count) (eq-eqb n 0 long)))
 passed_right {v = v} {start = start} {b = b} {taken = taken} {more = more} {n = n} {count = count} (something runs there) long at = (
   sym long,
-  stretched more (stretch_of runs (sym (named_nesting (all_bytes v) b.opens))),
+  stretched more (stretch_of runs (sym (named_nesting (lent_bytes lends v) b.opens))),
   sym there ∙ sym at ∙ sym (ap (λ b. cond b (start + length taken) count) (ne_eqb n 0 (λ e. (let some = some_run runs in omega arith)))),
 )
 
@@ -191,7 +191,7 @@ module _ {lends : Bool} {v : View} {h : List Moment} {s t : State} (k : Kept len
       record {
         latch = latch_none h m still live.drawn g.unlatched (ap (first_for_good None) a);
         tale = inr (story_on g.story m t more now
-            (subst (λ a. Agrees v m a more (g.story.start + length g.story.taken) (g.story.start + length now)) (sym a) (passed_right passed (long ∙ omega arith) counts))
+            (subst (λ a. Agrees lends v m a more (g.story.start + length g.story.taken) (g.story.start + length now)) (sym a) (passed_right passed (long ∙ omega arith) counts))
             (passing_of live) end (rw still (omega arith)) (stays g m t (calm m is m.answer) pdu (rw still (goes_on live))));
       }
 
@@ -199,9 +199,9 @@ module _ {lends : Bool} {v : View} {h : List Moment} {s t : State} (k : Kept len
       SkipEnd lends v g.story.start g.story.size g.story.taken g.story.es s.body (nesting s.body.opens) 0 t.body (Err f) → Kept lends v (h ++ (m ∷ [])) t
   refused_kept g loose f a latched pdu end (cut more now grows at left short none_whole) = go left
     where
-      agrees : Agrees v m m.answer more (g.story.start + length g.story.taken) (g.story.start + length now)
-      agrees = subst (λ a. Agrees v m a more (g.story.start + length g.story.taken) (g.story.start + length now)) (sym a)
-          (subst (λ k. RefusedAgrees k f more (g.story.start + length g.story.taken) (g.story.start + length now)) (sym is) (short 0 (named_nesting (all_bytes v) s.body.opens ∙ omega arith), omega arith, at))
+      agrees : Agrees lends v m m.answer more (g.story.start + length g.story.taken) (g.story.start + length now)
+      agrees = subst (λ a. Agrees lends v m a more (g.story.start + length g.story.taken) (g.story.start + length now)) (sym a)
+          (subst (λ k. RefusedAgrees k f more (g.story.start + length g.story.taken) (g.story.start + length now)) (sym is) (short 0 (named_nesting (lent_bytes lends v) s.body.opens ∙ omega arith), omega arith, at))
 
       go : Left lends v g.story.start g.story.size now (g.story.es ++ more) f t.body →
           Kept lends v (h ++ (m ∷ [])) t
@@ -232,15 +232,15 @@ module _ {lends : Bool} {v : View} {h : List Moment} {s t : State} (k : Kept len
   pub skip_turn_right : Made (SkipCall lends s) SkipAnswer m.answer t → Turn s.pdu s.latched call.Skip m.answer
   skip_turn_right made = go (skip_came made)
     where
-      number : {v : View} {start size : ℕ} {taken : List ℕ} {es : List Event} {b : Body} {down n : ℕ} {f : Refusal} → SkipEnd lends v start size taken es b down n t.body (Err f) → 3 ≤ number_of f.cause
-      number (cut more now {f} grows at (inl (latches, stands)) short none_whole) = good_number f.cause latches
-      number (cut more now {f} grows at (inr (full, live)) short none_whole) = room_number full
+      number : {v : View} {start size : ℕ} {taken : List ℕ} {es : List Event} {b : Body} {down n : ℕ} {f : Refusal} → SkipEnd lends v start size taken es b down n t.body (Err f) → (latching f.cause ≡ true) ⊎ (number_of f.cause ≡ 14)
+      number (cut more now {f} grows at (inl (latches, stands)) short none_whole) = inl latches
+      number (cut more now {f} grows at (inr (full, live)) short none_whole) = inr (ap number_of full)
 
       go : SkipCame lends s t m.answer → Turn s.pdu s.latched call.Skip m.answer
       go (passes o own loose n skip a latched pdu end) = turn_as s call.Skip m.answer own loose (λ f is. absurd (cc))
       go (refuses o own loose f skip a latched pdu end) =
           let g = ongoing k loose own in
-          turn_as s call.Skip m.answer own loose (in_turn a (number (skip_ends g.story.small skip g.live (omega arith))))
+          turn_as s call.Skip m.answer own loose (for_good_or_room a (number (skip_ends g.story.small skip g.live (omega arith))))
       go (tells_again f a same (again caught)) = turn_as s call.Skip m.answer refl caught a
       go (tells_again f a same (out_of_turn loose shut is)) = turn_as s call.Skip m.answer shut loose (f, a, ap (λ (f : Refusal). number_of f.cause) is)
 
@@ -261,12 +261,12 @@ skip_reads {lends} {v} {h} {s} {t} {a} y on w whole made =
         n ≡ stretch 0 (drop (length y.es) (events w))
     passed first (done more now live long (nothing closed same)) =
         let (r, x, body, told, completes) = still_to_come (passing_of first) w whole.declared in
-        let none_left : x ≡ [] = (coming.ended (subst (λ o. Completes none (levels (all_bytes v) o) r x) closed completes)).1 in
+        let none_left : x ≡ [] = (coming.ended (subst (λ o. Completes none (levels (lent_bytes lends v) o) r x) closed completes)).1 in
         long ∙ omega arith ∙ sym (ap (stretch 0) (to_come y.es x told ∙ none_left))
     passed first (done more now live long (something runs there)) =
         let (r, x, body, told, completes) = still_to_come (passing_of live) w whole.declared in
         let rest : drop (length y.es) (events w) ≡ more ++ x = to_come y.es (more ++ x) (told ∙ append_assoc y.es more x) in
-        long ∙ omega arith ∙ sym (ap (stretch 0) rest ∙ stretch_of runs (sym (named_nesting (all_bytes v) s.body.opens)) x)
+        long ∙ omega arith ∙ sym (ap (stretch 0) rest ∙ stretch_of runs (sym (named_nesting (lent_bytes lends v) s.body.opens)) x)
 
     go : s.latched ≡ None → s.pdu ≡ Some (record { start = y.start; length = y.size }) → Live lends v y.start y.size y.taken y.es s.body → SkipCame lends s t a →
         a ≡ answer.Skipped (stretch 0 (drop (length y.es) (events w)))
@@ -292,7 +292,7 @@ pub skip_at_end : {lends : Bool} {v : View} {h : List Moment} {s t : State} {a :
 skip_at_end {lends} {v} {s = s} {t = t} {a = a} y on made loose closed = let (own, i) = in_pdu_now y on in by own (ended (live_now i loose)) (skip_came made)
   where
     ended : Live lends v y.start y.size y.taken y.es s.body → step lends None s.body ≡ gives None s.body []
-    ended live = step_done lends None s.body (none_awaited (all_bytes v) s.body.unread s.body.opens live.ready.waits closed) closed
+    ended live = step_done lends None s.body (none_awaited (lent_bytes lends v) s.body.unread s.body.opens live.ready.waits closed) closed
 
     by : s.pdu ≡ Some (record { start = y.start; length = y.size }) → step lends None s.body ≡ gives None s.body [] → SkipCame lends s t a → a ≡ answer.Skipped 0
     by own here (passes o is free n skip says latched pdu end) = let same = none_skipped skip here in let zero : n ≡ 0 = cc in says ∙ ap answer.Skipped zero

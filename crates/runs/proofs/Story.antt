@@ -11,10 +11,10 @@ use Rattle.de.specs.declared.entry.Answer.TheVariants as answer
 use Rattle.de.specs.Steps.{Body}
 use Rattle.de.specs.Calls.{State, fresh, telling, up_to, tally}
 use Rattle.de.specs.Made.{Moment}
-use Rattle.runs.specs.Law.{from, Phase, none_yet, running, over, left, phase, phase_after, open_pdu, for_good, Agrees, RefusedAgrees, Passed, moves, Truthful, Idle, Whole}
+use Rattle.runs.specs.Law.{lent_bytes, from, Phase, none_yet, running, over, left, phase, phase_after, open_pdu, for_good, Agrees, RefusedAgrees, Passed, moves, Truthful, Idle, Whole}
 use Rattle.runs.proofs.Taking.{levels}
 use Rattle.runs.proofs.Reached.{Reached}
-use Rattle.runs.proofs.Bodies.{all_bytes, Drawn, Passing, bytes_taken, Live, Stuck}
+use Rattle.runs.proofs.Bodies.{Drawn, Passing, bytes_taken, Live, Stuck}
 use Rattle.runs.proofs.Moments.{last_same, phase_last, agrees_refused, Latch, drawn_of, latched_first, latch_still}
 
 -- ---- the story of the PDU that was opened last
@@ -37,7 +37,7 @@ pub record Story (lends : Bool) (v : View) (h : List Moment) (s : State) : Type 
   pub size : ℕ
   pub taken : List ℕ
   pub es : List Event
-  pub passed : Passed v h es (start + length taken)
+  pub passed : Passed lends v h es (start + length taken)
   pub passing : Passing lends v start size taken es s.body
   pub small : start + size ≤ 1152921504606846976
   pub last : s.last ≡ record { start = start; length = size }
@@ -92,7 +92,7 @@ truth {lends} {v} {h} {s} y m tells = record {
   at_most = rw told (omega arith);
 }
   where
-    reached : Reached lends y.taken y.es (levels (all_bytes v) s.body.opens)
+    reached : Reached lends y.taken y.es (levels (lent_bytes lends v) s.body.opens)
     reached = y.passing.reached
 
     bytes : take (y.start + length y.taken - y.start) (from v y.start) ≡ y.taken
@@ -113,7 +113,7 @@ stays_inside {lends} {v} {h} {s} y on = go y.stands
 -- ---- one more moment
 
 pub story_on : {lends : Bool} {v : View} {h : List Moment} {s : State} (y : Story lends v h s) (m : Moment) (t : State) (more : List Event) (taken : List ℕ) →
-    Agrees v m m.answer more (y.start + length y.taken) (y.start + length taken) → Passing lends v y.start y.size taken (y.es ++ more) t.body → t.last ≡ s.last → y.start + length taken ≤ up_to t.latched t →
+    Agrees lends v m m.answer more (y.start + length y.taken) (y.start + length taken) → Passing lends v y.start y.size taken (y.es ++ more) t.body → t.last ≡ s.last → y.start + length taken ≤ up_to t.latched t →
     Stands lends v y.start y.size taken (y.es ++ more) t (phase_after (phase h) m.call m.answer) → Story lends v (h ++ (m ∷ [])) t
 story_on {lends} {v} {h} y m t more taken agrees passing last after stands = record {
   start = y.start;
@@ -130,7 +130,7 @@ story_on {lends} {v} {h} y m t more taken agrees passing last after stands = rec
 
 -- no event has passed
 pub story_still : {lends : Bool} {v : View} {h : List Moment} {s : State} (y : Story lends v h s) (m : Moment) (t : State) →
-    Agrees v m m.answer [] (y.start + length y.taken) (y.start + length y.taken) → Passing lends v y.start y.size y.taken y.es t.body → t.last ≡ s.last → y.start + length y.taken ≤ up_to t.latched t →
+    Agrees lends v m m.answer [] (y.start + length y.taken) (y.start + length y.taken) → Passing lends v y.start y.size y.taken y.es t.body → t.last ≡ s.last → y.start + length y.taken ≤ up_to t.latched t →
     Stands lends v y.start y.size y.taken y.es t (phase_after (phase h) m.call m.answer) → Story lends v (h ++ (m ∷ [])) t
 story_still {lends} {v} {h} y m t agrees passing last after stands =
     story_on y m t [] y.taken agrees (subst (λ es. Passing lends v y.start y.size y.taken es t.body) (sym (append-nil y.es)) passing) last after
@@ -201,7 +201,7 @@ quiet {lends} {v} {h} {s} {t} m f k is a free on agrees tells = subst (λ t. Kep
     go (inl u) = inl (untouched_on u m (telling f s) a refl refl refl (subst (λ t. Tells m t) is tells))
     go (inr y) =
         let c = y.start + length y.taken in
-        inr (story_still y m (telling f s) (agrees_refused v m c a (agrees c y.after)) y.passing refl (rw (same_place s.latched s (telling f s) refl) y.after)
+        inr (story_still y m (telling f s) (agrees_refused lends v m c a (agrees c y.after)) y.passing refl (rw (same_place s.latched s (telling f s) refl) y.after)
         (subst (λ a. Stands lends v y.start y.size y.taken y.es (telling f s) (phase_after (phase h) m.call a)) (sym a) (stands_on m.call f (same y.stands) on)))
 
 -- ---- while a PDU is open and no call was refused for good

@@ -10,7 +10,7 @@ use Rattle.de.specs.declared.entry.Call.{Call}
 use Rattle.de.specs.declared.entry.Answer.{Answer}
 use Rattle.de.specs.declared.entry.Answer.TheVariants as answer
 use Rattle.de.specs.Calls.{State, here, up_to}
-use Rattle.runs.specs.Law.{InTurn, Turn}
+use Rattle.runs.specs.Law.{ForGood, ForGoodOrRoom, Turn}
 
 -- why a call is refused before anything is read
 pub data Untried (s : State) (wrong : Type 0) (f : Refusal) : Type 0 where
@@ -48,12 +48,11 @@ good_number cause.NoKeys h = omega arith
 good_number cause.Unfinished h = omega arith
 good_number (cause.Length expected count) h = omega arith
 
--- nor has a text buffer that is too short
-pub room_number : {c : Cause} → c ≡ cause.Read error.Room → 3 ≤ number_of c
-room_number full = rw full (omega arith)
+pub for_good_only : {a : Answer} {f : Refusal} → a ≡ answer.Refused f → latching f.cause ≡ true → ForGood a
+for_good_only {f = f} a l g is = let same : f ≡ g = cc in subst (λ (f : Refusal). latching f.cause ≡ true) same l
 
-pub in_turn : {a : Answer} {f : Refusal} → a ≡ answer.Refused f → 3 ≤ number_of f.cause → InTurn a
-in_turn {f = f} a n g is = let same : f ≡ g = cc in subst (λ (f : Refusal). 3 ≤ number_of f.cause) same n
+pub for_good_or_room : {a : Answer} {f : Refusal} → a ≡ answer.Refused f → (latching f.cause ≡ true) ⊎ (number_of f.cause ≡ 14) → ForGoodOrRoom a
+for_good_or_room {f = f} a l g is = let same : f ≡ g = cc in subst (λ (f : Refusal). (latching f.cause ≡ true) ⊎ (number_of f.cause ≡ 14)) same l
 
 pub turn_as : (s : State) (c : Call) (a : Answer) {p : Option Extent} {o : Option Refusal} → s.pdu ≡ p → s.latched ≡ o → Turn p o c a → Turn s.pdu s.latched c a
 turn_as s c a own latched t = subst₂ (λ p o. Turn p o c a) (sym own) (sym latched) t

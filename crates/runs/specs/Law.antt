@@ -1,6 +1,6 @@
 -- What holds of any list of calls on a new decoder. It speaks of what a caller sees: the calls, their answers, the reader's count
 -- and what the decoder tells after each, and the text buffer; of what the reader meant at first; and of values.
-use Rattle.std.specs.Prelude.{◌≡◌, ℕ, suc, pred, ◌+◌, ◌-◌, ◌*◌, ◌<◌, ◌≤◌, Bool, true, false, cond, ◌⊎◌, List, [], ◌∷◌, ◌++◌, length, take, drop, pos, Some, None, Option, ◌==◌}
+use Rattle.std.specs.Prelude.{◌≡◌, ℕ, suc, pred, min, ◌+◌, ◌-◌, ◌*◌, ◌<◌, ◌≤◌, Bool, true, false, cond, ◌⊎◌, List, [], ◌∷◌, ◌++◌, length, take, drop, pos, Some, None, Option, ◌==◌}
 use Rattle.read.specs.Reader.{View, past}
 use Rattle.format.specs.Integers.{little_endian}
 use Rattle.format.specs.Numbers.{latching, number_of}
@@ -23,6 +23,11 @@ Begins xs ys = (rest : List _) × (ys ≡ xs ++ rest)
 -- the bytes from a count on, as they stood at first
 abbrev pub from : View → ℕ → List ℕ
 from v n = drop (n - v.count) v.coming
+
+-- what a reader that lends was given and will be: the places that it hands out lie there
+abbrev pub lent_bytes : Bool → View → List ℕ
+lent_bytes true v = v.kept ++ v.coming
+lent_bytes false v = []
 
 -- ---- what is open after some moments, and what was refused for good
 
@@ -75,6 +80,11 @@ for_good_from o (m ∷ h) = for_good_from (first_for_good o m.answer) h
 abbrev pub for_good : List Moment → Option Refusal
 for_good h = for_good_from None h
 
+-- the reader's count after these moments
+abbrev pub count_after : ℕ → List Moment → ℕ
+count_after n [] = n
+count_after n (m ∷ h) = count_after m.count h
+
 -- ---- what has passed
 
 -- how deep an event leads, where so much has begun
@@ -112,22 +122,27 @@ RefusedAgrees (call.Next n) f more c d = (more ≡ []) × (d ≡ c)
 RefusedAgrees call.Skip f more c d = (stretch 0 more ≡ length more) × (c ≤ d) × (d ≤ f.place)
 RefusedAgrees (call.Close e) f more c d = (more ≡ []) × (d ≡ c)
 
-abbrev pub Agrees : View → Moment → Answer → List Event → ℕ → ℕ → Type 0
-Agrees v m (answer.Opened h) more c d = ⊥
-Agrees v m (answer.Gave e) more c d = (more ≡ shown (v.kept ++ v.coming) m.text e ∷ []) × (d ≡ m.count)
-Agrees v m answer.Done more c d = (more ≡ []) × (d ≡ c)
-Agrees v m (answer.Skipped n) more c d = (length more ≡ n) × Stretched more × (d ≡ cond (n == 0) c m.count)
-Agrees v m (answer.Closed k) more c d = (more ≡ []) × (d ≡ c)
-Agrees v m (answer.Refused f) more c d = RefusedAgrees m.call f more c d
+abbrev pub Agrees : Bool → View → Moment → Answer → List Event → ℕ → ℕ → Type 0
+Agrees lends v m (answer.Opened h) more c d = ⊥
+Agrees lends v m (answer.Gave e) more c d = (more ≡ shown (lent_bytes lends v) m.text e ∷ []) × (d ≡ m.count)
+Agrees lends v m answer.Done more c d = (more ≡ []) × (d ≡ c)
+Agrees lends v m (answer.Skipped n) more c d = (length more ≡ n) × Stretched more × (d ≡ cond (n == 0) c m.count)
+Agrees lends v m (answer.Closed k) more c d = (more ≡ []) × (d ≡ c)
+Agrees lends v m (answer.Refused f) more c d = RefusedAgrees m.call f more c d
 
 -- After these moments these events have passed since the last accepted open, the last of them at this count.
-pub data Passed (v : View) : List Moment → List Event → ℕ → Type 0 where
-  opens : (h : List Moment) (m : Moment) {k : Header} → m.answer ≡ answer.Opened k → m.count ≡ k.start → Passed v (h ++ (m ∷ [])) [] k.start
-  moves : (h : List Moment) (m : Moment) {es : List Event} {c d : ℕ} (more : List Event) → Passed v h es c → Agrees v m m.answer more c d → Passed v (h ++ (m ∷ [])) (es ++ more) d
+pub data Passed (lends : Bool) (v : View) : List Moment → List Event → ℕ → Type 0 where
+  opens : (h : List Moment) (m : Moment) {k : Header} → m.answer ≡ answer.Opened k → m.count ≡ k.start → Passed lends v (h ++ (m ∷ [])) [] k.start
+  moves : (h : List Moment) (m : Moment) {es : List Event} {c d : ℕ} (more : List Event) → Passed lends v h es c → Agrees lends v m m.answer more c d → Passed lends v (h ++ (m ∷ [])) (es ++ more) d
 
 -- ---- what was passed is true
 
-pub record Truthful (v : View) (start size : ℕ) (es : List Event) (c : ℕ) (m : Moment) : Type 0 where
+-- the bytes taken end at this count: the place of a refusal for good, or that of the reader
+abbrev pub taken_to : Option Refusal → ℕ → ℕ
+taken_to None n = n
+taken_to (Some f) n = f.place
+
+pub record Truthful (v : View) (start size : ℕ) (r : Option Refusal) (es : List Event) (c : ℕ) (m : Moment) : Type 0 where
   -- the events begin those of every value whose encoding begins with the body bytes taken up to the last of them, and there is one
   pub every : (w : Value) → Formed w → Begins (take (c - start) (from v start)) (encoding w) → Begins es (events w)
   pub some : (w : Value) × Formed w × Begins (take (c - start) (from v start)) (encoding w)
@@ -135,9 +150,17 @@ pub record Truthful (v : View) (start size : ℕ) (es : List Event) (c : ℕ) (m
   pub counted : m.events ≡ length es
   pub few : length es ≤ 4 * (c - start)
   pub told_bytes : c - start ≤ m.bytes
+  -- the bytes told are the body bytes taken
+  pub exactly : m.bytes ≡ min (taken_to r m.count) (start + size) - start
   pub at_most : m.bytes ≤ size
 
 -- ---- a whole body is never refused, and its end is told exactly
+
+-- the body bytes taken up to the last event are the whole encoding of this value, whose events have passed
+pub record Ended (v : View) (start : ℕ) (es : List Event) (c : ℕ) (w : Value) : Type 0 where
+  pub formed : Formed w
+  pub bytes : encoding w ≡ take (c - start) (from v start)
+  pub told : events w ≡ es
 
 -- the declared body is the whole encoding of this value
 pub record Declared (v : View) (start size : ℕ) (w : Value) : Type 0 where
@@ -146,9 +169,12 @@ pub record Declared (v : View) (start size : ℕ) (w : Value) : Type 0 where
   pub there : take size (from v start) ≡ encoding w
 
 -- a close that is given the numbers of the open PDU
-pub record Closes (v : View) (start size : ℕ) (es : List Event) (a : Answer) : Type 0 where
+pub record Closes (v : View) (start size : ℕ) (r : Option Refusal) (es : List Event) (c : ℕ) (a : Answer) : Type 0 where
   pub accepts : (w : Value) → Declared v start size w → es ≡ events w → a ≡ answer.Closed (record { events = length es; length = size })
   pub accepted : (n l : ℕ) → a ≡ answer.Closed (record { events = n; length = l }) → (n ≡ length es) × (l ≡ size) × (w : Value) × Declared v start size w × (es ≡ events w)
+  -- events are still to come, or the value has ended elsewhere than was declared
+  pub refused : r ≡ None → (f : Refusal) → a ≡ answer.Refused f →
+      ((number_of f.cause ≡ 15) × ((w : Value) → Ended v start es c w → ⊥)) ⊎ ((number_of f.cause ≡ 16) × (w : Value) × Ended v start es c w)
 
 -- the bytes that an event hands out
 abbrev pub hands_out : Event → Option (List ℕ)
@@ -201,13 +227,7 @@ pub record Whole (lends : Bool) (v : View) (start size : ℕ) (w : Value) : Type
   pub within : Within w (limits lends) 0 0 0
   pub clear : past v.stop (start + size) ≡ false
 
--- ---- the end of a value, of a whole body or not
-
--- the body bytes taken up to the last event are the whole encoding of this value, whose events have passed
-pub record Ended (v : View) (start : ℕ) (es : List Event) (c : ℕ) (w : Value) : Type 0 where
-  pub formed : Formed w
-  pub bytes : encoding w ≡ take (c - start) (from v start)
-  pub told : events w ≡ es
+-- ---- where a value has ended
 
 -- next or skip, which pass events
 abbrev pub PassesEvents : Call → Type 0
@@ -225,16 +245,20 @@ NothingLeft (call.Close e) a = ⊥
 
 -- the call after these events, where the PDU is open
 pub record GoesOn (lends : Bool) (v : View) (start size : ℕ) (r : Option Refusal) (es : List Event) (c : ℕ) (m : Moment) : Type 0 where
-  pub closes : m.call ≡ call.Close (record { start = start; length = size }) → Closes v start size es m.answer
+  pub closes : m.call ≡ call.Close (record { start = start; length = size }) → Closes v start size r es c m.answer
   pub reads : (w : Value) → Whole lends v start size w → Reads lends w es m.call m.answer
   pub at_end : r ≡ None → (w : Value) → Ended v start es c w → PassesEvents m.call → NothingLeft m.call m.answer
   pub only_there : NothingLeft m.call m.answer → (w : Value) × Ended v start es c w
 
 -- ---- a call that is decided by what came before it
 
--- the number is none of those of a call out of turn and of a token of another PDU
-abbrev pub InTurn : Answer → Type 0
-InTurn a = (f : Refusal) → a ≡ answer.Refused f → 3 ≤ number_of f.cause
+-- if it is refused, then for good
+abbrev pub ForGood : Answer → Type 0
+ForGood a = (f : Refusal) → a ≡ answer.Refused f → latching f.cause ≡ true
+
+-- if it is refused, then for good or for want of room in the text buffer
+abbrev pub ForGoodOrRoom : Answer → Type 0
+ForGoodOrRoom a = (f : Refusal) → a ≡ answer.Refused f → (latching f.cause ≡ true) ⊎ (number_of f.cause ≡ 14)
 
 -- a refusal for good comes again
 abbrev pub Again : Option Refusal → Answer → Type 0
@@ -243,7 +267,7 @@ Again (Some f) a = a ≡ answer.Refused f
 
 -- the token is that of the open PDU, or it is refused
 abbrev pub CloseTurn : Option Extent → Option Refusal → Extent → Answer → Type 0
-CloseTurn o r e a = ((o ≡ Some e) × InTurn a × Again r a) ⊎ ((o ≡ Some e → ⊥) × RefusedBy 2 a)
+CloseTurn o r e a = ((o ≡ Some e) × ForGood a × Again r a) ⊎ ((o ≡ Some e → ⊥) × RefusedBy 2 a)
 
 -- what is answered where this PDU is open, or none, and where this was refused for good, or nothing
 abbrev pub Turn : Option Extent → Option Refusal → Call → Answer → Type 0
@@ -251,19 +275,20 @@ Turn o r (call.Close e) a = CloseTurn o r e a
 Turn o (Some f) call.Open a = Again (Some f) a
 Turn o (Some f) (call.Next room) a = Again (Some f) a
 Turn o (Some f) call.Skip a = Again (Some f) a
-Turn None None call.Open a = InTurn a
+Turn None None call.Open a = ForGood a
 Turn None None (call.Next room) a = RefusedBy 1 a
 Turn None None call.Skip a = RefusedBy 1 a
 Turn (Some e) None call.Open a = RefusedBy 1 a
-Turn (Some e) None (call.Next room) a = InTurn a
-Turn (Some e) None call.Skip a = InTurn a
+Turn (Some e) None (call.Next room) a = ForGoodOrRoom a
+Turn (Some e) None call.Skip a = ForGoodOrRoom a
+
+-- the count of a call that takes nothing
+pub record Still (n : ℕ) (r : Option Refusal) (m : Moment) : Type 0 where
+  pub out_of_turn : (f : Refusal) → m.answer ≡ answer.Refused f → number_of f.cause < 3 → (f.place ≡ n) × (m.count ≡ n)
+  pub again : (f : Refusal) → r ≡ Some f → m.count ≡ n
+  pub closing : (e : Extent) → m.call ≡ call.Close e → m.count ≡ n
 
 -- ---- open accepts exactly when it should
-
--- the reader's count after these moments
-abbrev pub count_after : ℕ → List Moment → ℕ
-count_after n [] = n
-count_after n (m ∷ h) = count_after m.count h
 
 -- at this count stand the magic, four bytes of capabilities and a length, before the reader's stop; the body ends by 2 ^ 60
 pub record HeaderAt (v : View) (n : ℕ) (caps start size : ℕ) : Type 0 where
@@ -309,8 +334,8 @@ pub record Idle (m : Moment) : Type 0 where
 pub record PduStory (lends : Bool) (v : View) (h : List Moment) (m : Moment) (k : List Moment) (e : Extent) : Type 0 where
   pub es : List Event
   pub at : ℕ
-  pub passed : Passed v (h ++ (m ∷ [])) es at
-  pub truthful : Truthful v e.start e.length es at m
+  pub passed : Passed lends v (h ++ (m ∷ [])) es at
+  pub truthful : Truthful v e.start e.length (for_good (h ++ (m ∷ []))) es at m
   -- no byte beyond the declared end is taken until the PDU has been closed and open is called again
   pub inside : (phase (h ++ (m ∷ [])) ≡ left e → ⊥) → m.count ≤ e.start + e.length
   pub goes_on : phase (h ++ (m ∷ [])) ≡ running e → (n : Moment) (l : List Moment) → k ≡ n ∷ l → GoesOn lends v e.start e.length (for_good (h ++ (m ∷ []))) es at n
@@ -325,6 +350,7 @@ StoryBy (left e) lends v h m k = PduStory lends v h m k e
 pub record Lawful (lends : Bool) (v : View) (h : List Moment) (m : Moment) (k : List Moment) : Type 0 where
   pub suits : Suits m.call m.answer
   pub turn : Turn (open_pdu (phase h)) (for_good h) m.call m.answer
+  pub still : Still (count_after v.count h) (for_good h) m
   pub opens : m.call ≡ call.Open → Opens v h m
   pub story : StoryBy (phase (h ++ (m ∷ []))) lends v h m k
 
