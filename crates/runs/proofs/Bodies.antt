@@ -1,9 +1,9 @@
 -- A body of an open PDU: what holds of it between two events, and what a step makes of that.
-use Rattle.std.proofs.Common.{◌≡◌, ℕ, suc, ◌+◌, ◌-◌, ◌≤◌, Bool, true, false, List, [], ◌∷◌, ◌++◌, length, take, drop, Some, None, Option, ◌⊎◌, inl, inr, refl, sym, ap, ◌∙◌, subst, append_assoc, append-nil, length-append, arith}
+use Rattle.std.proofs.Common.{◌≡◌, ℕ, suc, ◌+◌, ◌-◌, ◌≤◌, Bool, true, false, List, [], ◌∷◌, ◌++◌, length, take, drop, Some, None, Option, refl, sym, ap, ◌∙◌, subst, append_assoc, append-nil, length-append, arith}
 use Rattle.std.proofs.lemmas.Bool.{le-ltb, ltb-false}
 use Rattle.std.proofs.lemmas.List.{take-append-drop}
 use Rattle.std.proofs.Math.Seq.{take-append-add, take-append_seam, drop-append_seam}
-use Rattle.read.specs.Reader.{View, past, cramped}
+use Rattle.read.specs.Reader.{View, past}
 use Rattle.format.specs.Numbers.{latching}
 use Rattle.format.specs.declared.refusal.Refusal.{Refusal}
 use Rattle.format.specs.declared.refusal.Cause.{Cause}
@@ -159,7 +159,7 @@ has_ended {lends} {v} {taken = taken} {es = es} p closed =
 
 pub nothing_open : {lends : Bool} {v : View} {start size : ℕ} {taken : List ℕ} {es : List value.Event} {b : Body} → Passing lends v start size taken es b → (w : Value) →
     Ended v start es (start + length taken) w → b.opens ≡ []
-nothing_open {v = v} {taken = taken} {es = es} {b = b} p w ended =
+nothing_open {lends} {v} {taken = taken} {es = es} {b = b} p w ended =
     let (x, told, completes) = p.reached.every w ended.formed [] (ended.bytes ∙ bytes_taken p ∙ sym (append-nil taken)) in
     no_levels (lent_bytes lends v) b.opens (all_come completes (none_more es x (sym ended.told ∙ told))).0
 
@@ -220,11 +220,11 @@ module _ {lends : Bool} {v : View} {start size : ℕ} where
         grows = omega arith;
       }
 
-  pub stopped_inside : {taken : List ℕ} {es : List value.Event} {b c : Body} {f : Refusal} → Live lends v start size taken es b → Stopped lends (lent_bytes lends v) b f c → c.reader.count ≤ start + size
+  pub stopped_inside : {space : Option ℕ} {taken : List ℕ} {es : List value.Event} {b c : Body} {f : Refusal} → Live lends v start size taken es b → Stopped lends (lent_bytes lends v) space b f c → c.reader.count ≤ start + size
   stopped_inside {c = c} l s = after_end c.reader.count l (s.inside (before_end l))
 
   -- a text is awaited
-  pub wait : {taken : List ℕ} {es : List value.Event} {b c : Body} {f : Refusal} → Live lends v start size taken es b → Stopped lends (lent_bytes lends v) b f c → Waiting lends (lent_bytes lends v) b c →
+  pub wait : {space : Option ℕ} {taken : List ℕ} {es : List value.Event} {b c : Body} {f : Refusal} → Live lends v start size taken es b → Stopped lends (lent_bytes lends v) space b f c → Waiting lends (lent_bytes lends v) b c →
       Live lends v start size taken es c
   wait {taken} {es} {b} {c} l s t =
       let there = l.count in
@@ -266,26 +266,23 @@ module _ {lends : Bool} {v : View} {start size : ℕ} where
           (step_can space b (r ++ q) l.ready l.fronts (subst (λ s. Takes (limits lends) s c t after) (sym here) k) (rest ∙ append_assoc c r q)
           (record { before_end = rw l.end (before close); before_stop = rw l.drawn.took.stop (past_less v.stop _ (start + size) close whole.clear) })) told
 
-  -- no step refuses for good, and none at all that needs no room
+  -- no step refuses for good
   pub never_stuck : {taken : List ℕ} {es : List value.Event} {b c : Body} {f : Refusal} {x : List ℕ} (space : Option ℕ) → Live lends v start size taken es b → (b.opens ≡ [] → ⊥) →
       step lends space b ≡ stops f c x →
-      (latching f.cause ≡ true) ⊎ (space ≡ None) → (w : Value) → Whole lends v start size w → ⊥
-  never_stuck {es = es} {b = b} {c = c} {f = f} {x = x} space l more stop why w whole = go (outlook space l w whole)
+      latching f.cause ≡ true → (w : Value) → Whole lends v start size w → ⊥
+  never_stuck {es = es} {b = b} {c = c} {f = f} {x = x} space l more stop latches w whole = go (outlook space l w whole)
     where
       go : Outlook lends space b es w → ⊥
       go (at_the_end e told) = more e
       go (more_comes t y (can_give ev d z gave loose) told) = absurd (cc)
-      go (more_comes t y (must_wait g d z waits room tight) told) = needs why
-        where
-          same : f ≡ g
-          same = let z : stops f c x ≡ stops g d z = sym stop ∙ waits in cc
-
-          needs : (latching f.cause ≡ true) ⊎ (space ≡ None) → ⊥
-          needs (inl h) = let z : false ≡ true = sym (ap latching (ap (λ h. h.cause) same ∙ room)) ∙ h in absurd (cc)
-          needs (inr e) = let z : false ≡ true = ap (λ s. cramped s (length tight.text)) (sym e) ∙ tight.long in absurd (cc)
+      go (more_comes t y (must_wait g d z waits room tight) told) =
+          let both : stops f c x ≡ stops g d z = sym stop ∙ waits in
+          let same : f ≡ g = cc in
+          let no : false ≡ true = sym (ap latching (ap (λ h. h.cause) same ∙ room)) ∙ latches in
+          absurd (cc)
 
   -- a step was refused for good
-  pub stuck : {taken : List ℕ} {es : List value.Event} {b c : Body} {f : Refusal} {x : List ℕ} (space : Option ℕ) → Live lends v start size taken es b → Stopped lends (lent_bytes lends v) b f c →
+  pub stuck : {taken : List ℕ} {es : List value.Event} {b c : Body} {f : Refusal} {x : List ℕ} (space : Option ℕ) → Live lends v start size taken es b → Stopped lends (lent_bytes lends v) space b f c →
       step lends space b ≡ stops f c x → latching f.cause ≡ true →
       (d : Body) → d.opens ≡ c.opens → d.events ≡ c.events → d.reader.count ≤ start + size → Stuck lends v start size taken es f d
   stuck space l s stop latches d opens events inside =
@@ -296,5 +293,5 @@ module _ {lends : Bool} {v : View} {start size : ℕ} where
         after = omega arith;
         inside = inside;
         more = λ e. s.more (sym (opens ∙ s.opens) ∙ e);
-        none_whole = never_stuck space l s.more stop (inl latches);
+        none_whole = never_stuck space l s.more stop latches;
       }

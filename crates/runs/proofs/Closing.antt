@@ -1,5 +1,5 @@
 -- A call of close: what it keeps, and when it accepts.
-use Rattle.std.proofs.Common.{◌≡◌, ℕ, ◌+◌, ◌≤◌, Bool, true, false, cond, ◌&&◌, ◌==◌, List, [], ◌∷◌, ◌++◌, length, Some, None, Err, Option, Result, ◌⊎◌, inl, inr, refl, sym, ap, ◌∙◌, subst, append-nil, arith}
+use Rattle.std.proofs.Common.{◌≡◌, ℕ, ◌+◌, ◌<◌, ◌≤◌, Bool, true, false, cond, ◌&&◌, ◌==◌, List, [], ◌∷◌, ◌++◌, length, Some, None, Err, Option, Result, ◌⊎◌, inl, inr, refl, sym, ap, ◌∙◌, subst, append-nil, arith}
 use Rattle.std.proofs.lemmas.Bool.{eq-eqb, ne_eqb, eqb-true}
 use Rattle.std.proofs.Math.Seq.{take-append_seam}
 use Rattle.read.specs.Reader.{View}
@@ -19,15 +19,15 @@ use Rattle.de.specs.declared.entry.Answer.TheVariants as answer
 use Rattle.de.specs.Steps.{Body}
 use Rattle.de.specs.Calls.{State, Meets, gave, telling, latch, here, shut, refusing, finished, finished_by, close_by, close_own, close_call, owns, up_to}
 use Rattle.de.specs.Made.{Moment, Made, CloseAnswer, token}
-use Rattle.runs.specs.Law.{lent_bytes, running, over, phase, phase_after, close_phase, first_for_good, RefusedAgrees, Agrees, Declared, Closes, Again, Turn}
+use Rattle.runs.specs.Law.{lent_bytes, running, over, phase, phase_after, close_phase, first_for_good, RefusedAgrees, Agrees, Declared, Closes, Ended, Again, CloseAsked}
 use Rattle.runs.proofs.Taking.{levels}
 use Rattle.runs.proofs.Coming.{all_come}
 use Rattle.runs.proofs.Reached.{Reached, whole_body}
 use Rattle.runs.proofs.Made.{none_ahead}
-use Rattle.runs.proofs.Bodies.{Passing, passing_still, no_levels, none_more, none_awaited, still_to_come}
+use Rattle.runs.proofs.Bodies.{Passing, passing_still, no_levels, none_more, has_ended, nothing_open, none_awaited, Live, still_to_come}
 use Rattle.runs.proofs.Moments.{drawn_of, latched_first, latches_of, latch_none, latch_some, latch_still, agrees_refused, as_told, latched_by}
-use Rattle.runs.proofs.Turns.{good_number, for_good_only}
-use Rattle.runs.proofs.Story.{Untouched, InPdu, goes_on, stands_still, Stands, in_pdu, behind_it, off_it, Story, story_still, running_inside, Kept, Tells, same_place, quiet, in_pdu_now}
+use Rattle.runs.proofs.Turns.{good_number, known_of, Leaves_all}
+use Rattle.runs.proofs.Story.{Untouched, InPdu, goes_on, stands_still, Stands, in_pdu, behind_it, off_it, Story, story_still, running_inside, Kept, Tells, same_place, quiet, in_pdu_now, live_now}
 
 -- ---- what a call of close comes to
 
@@ -48,9 +48,9 @@ pub data CloseCame (e : Extent) (s t : State) (a : Answer) : Type 0 where
   closes : s.pdu ≡ Some e → s.latched ≡ None → finished s.body ≡ true → s.body.reader.count ≡ e.start + e.length → a ≡ answer.Closed (record { events = s.body.events; length = e.length }) →
       t ≡ shut s → CloseCame e s t a
   refuses : s.pdu ≡ Some e → s.latched ≡ None → (finished s.body ≡ true → s.body.reader.count ≡ e.start + e.length → ⊥) → (f : Refusal) → f.place ≡ s.body.reader.count → latching f.cause ≡ true →
-      a ≡ answer.Refused f → t ≡ telling f (latch f (shut s)) → CloseCame e s t a
+      ((number_of f.cause ≡ 15) × (finished s.body ≡ false)) ⊎ ((number_of f.cause ≡ 16) × (finished s.body ≡ true)) → a ≡ answer.Refused f → t ≡ telling f (latch f (shut s)) → CloseCame e s t a
   refuses_again : s.pdu ≡ Some e → (f : Refusal) → s.latched ≡ Some f → a ≡ answer.Refused f → t ≡ telling f (shut s) → CloseCame e s t a
-  another : (s.pdu ≡ Some e → ⊥) → (f : Refusal) → a ≡ answer.Refused f → t ≡ telling f s → f.cause ≡ cause.Token → CloseCame e s t a
+  another : (s.pdu ≡ Some e → ⊥) → (f : Refusal) → a ≡ answer.Refused f → t ≡ telling f s → f ≡ here cause.Token s → CloseCame e s t a
 
 pub close_came : {e : Extent} {s t : State} {a : Answer} → Made (Meets (close_call (token 0 e) s)) CloseAnswer a t → CloseCame e s t a
 close_came {e} {s} {t} {a} made = by_pdu s.pdu refl made.meets
@@ -70,13 +70,13 @@ close_came {e} {s} {t} {a} made = by_pdu s.pdu refl made.meets
     by_count : s.pdu ≡ Some e → s.latched ≡ None → finished s.body ≡ true → (b : Bool) → (s.body.reader.count == e.start + e.length) ≡ b →
         Meets (cond b (gave (record { events = s.body.events; length = e.length }) (shut s)) (refusing wrong_length (shut s))) made.result t → CloseCame e s t a
     by_count is loose done true there (comes, same) = closes is loose done (eqb-true s.body.reader.count (e.start + e.length) there) (answers comes) same
-    by_count is loose done false there (comes, same) = refuses is loose (λ f at. let z : false ≡ true = sym there ∙ eq-eqb s.body.reader.count (e.start + e.length) at in absurd (cc)) wrong_length refl refl (told_so (latch wrong_length (shut s)) comes same) same
+    by_count is loose done false there (comes, same) = refuses is loose (λ f at. let z : false ≡ true = sym there ∙ eq-eqb s.body.reader.count (e.start + e.length) at in absurd (cc)) wrong_length refl refl (inr (refl, done)) (told_so (latch wrong_length (shut s)) comes same) same
 
     by_end : s.pdu ≡ Some e → s.latched ≡ None → (b : Bool) → finished s.body ≡ b →
         Meets (cond b (cond (s.body.reader.count == e.start + e.length) (gave (record { events = s.body.events; length = e.length }) (shut s)) (refusing wrong_length (shut s)))
         (refusing unfinished (shut s))) made.result t → CloseCame e s t a
     by_end is loose true done meets = by_count is loose done (s.body.reader.count == e.start + e.length) refl meets
-    by_end is loose false done (comes, same) = refuses is loose (λ f at. absurd (cc)) unfinished refl refl (told_so (latch unfinished (shut s)) comes same) same
+    by_end is loose false done (comes, same) = refuses is loose (λ f at. absurd (cc)) unfinished refl refl (inl (refl, done)) (told_so (latch unfinished (shut s)) comes same) same
 
     by_latch : s.pdu ≡ Some e → (o : Option Refusal) → s.latched ≡ o → Meets (close_by o e (shut s)) made.result t → CloseCame e s t a
     by_latch is None loose meets = by_end is loose (finished s.body) refl meets
@@ -131,7 +131,7 @@ module _ {lends : Bool} {v : View} {h : List Moment} {s : State} (k : Kept lends
         latch = latch_none h m loose (drawn_of k.latch loose) (sym (latched_first k.latch) ∙ loose) (ap (first_for_good None) a);
         tale = inr (over_kept own (shut s) refl refl refl (rw (same_place s.latched s (shut s) refl) (omega arith)) (ap (close_phase (running e)) a) (λ c. subst (λ a. Agrees lends v m a [] c c) (sym a) (refl, refl)));
       })
-      go (refuses own loose why f place latches a same) =
+      go (refuses own loose why f place latches which a same) =
           let caught : (telling f (latch f (shut s))).latched ≡ Some f = latched_by s.latched latches in
           subst (λ t. Kept lends v (h ++ (m ∷ [])) t) (sym same) (record {
             latch = latch_some h m caught (sym (latched_first k.latch) ∙ loose) a latches;
@@ -144,19 +144,38 @@ module _ {lends : Bool} {v : View} {h : List Moment} {s : State} (k : Kept lends
             tale = inr (over_kept own (telling f (shut s)) refl refl refl (rw (same_place s.latched s (telling f (shut s)) refl) (omega arith)) (ended a latches) (agrees a));
           })
       go (another why f a same is_token) =
-          quiet m f k same a (λ e. ap latching is_token) (λ o. ap (λ c. phase_after (running o) c (answer.Refused f)) is ∙ ap (λ c. cond (number_of c == 2) (running o) (over o)) is_token)
+          quiet m f k same a (λ e. ap (λ (f : Refusal). latching f.cause) is_token) (λ o. ap (λ c. phase_after (running o) c (answer.Refused f)) is ∙ ap (λ (f : Refusal). cond (number_of f.cause == 2) (running o) (over o)) is_token)
           (λ c i. subst (λ k. RefusedAgrees k f [] c c) (sym is) (refl, refl)) tells
 
   -- ---- what decides it
 
-  pub close_turn_right : {t : State} → Made (Meets (close_call (token 0 e) s)) CloseAnswer m.answer t → Turn s.pdu s.latched (call.Close e) m.answer
-  close_turn_right {t} made = go (close_came made)
+  pub close_asked : {t : State} → Made (Meets (close_call (token 0 e) s)) CloseAnswer m.answer t → CloseAsked s.pdu s.latched e m.answer
+  close_asked {t} made = go (close_came made)
     where
-      go : CloseCame e s t m.answer → Turn s.pdu s.latched (call.Close e) m.answer
-      go (closes own loose done there a same) = inl (own, λ f is. absurd (cc), subst (λ o. Again o m.answer) (sym loose) tt)
-      go (refuses own loose why f place latches a same) = inl (own, for_good_only a latches, subst (λ o. Again o m.answer) (sym loose) tt)
-      go (refuses_again own f caught a same) = inl (own, for_good_only a (latches_of k.latch caught), subst (λ o. Again o m.answer) (sym caught) a)
-      go (another why f a same is_token) = inr (why, (f, a, ap number_of is_token))
+      go : CloseCame e s t m.answer → CloseAsked s.pdu s.latched e m.answer
+      go (closes own loose done there a same) = inl (own, subst (λ o. Again o m.answer) (sym loose) (λ f is. absurd (cc)))
+      go (refuses own loose why f place latches which a same) = inl (own, subst (λ o. Again o m.answer) (sym loose) (known_of (λ f. latching f.cause ≡ true) a latches))
+      go (refuses_again own f caught a same) = inl (own, subst (λ o. Again o m.answer) (sym caught) a)
+      go (another why f a same is) = inr (why, (f, a, ap (λ (f : Refusal). number_of f.cause) is))
+
+  -- the reader is left as it is
+  pub close_leaves : {t : State} → Made (Meets (close_call (token 0 e) s)) CloseAnswer m.answer t → (t.body ≡ s.body) × Leaves_all s t m.answer
+  close_leaves {t} made = (body (close_came made), record { by_number = λ f is few. by_number f is few (close_came made); for_good = λ f caught. body (close_came made) })
+    where
+      body : CloseCame e s t m.answer → t.body ≡ s.body
+      body (closes own loose done there a same) = ap (λ t. t.body) same
+      body (refuses own loose why f place latches which a same) = ap (λ t. t.body) same
+      body (refuses_again own f caught a same) = ap (λ t. t.body) same
+      body (another why f a same is) = ap (λ t. t.body) same
+
+      many : (f g : Refusal) → latching f.cause ≡ true → m.answer ≡ answer.Refused f → m.answer ≡ answer.Refused g → 3 ≤ number_of g.cause
+      many f g latches this is = known_of (λ f. 3 ≤ number_of f.cause) this (good_number f.cause latches) g is
+
+      by_number : (f : Refusal) → m.answer ≡ answer.Refused f → number_of f.cause < 3 → CloseCame e s t m.answer → (f.place ≡ s.body.reader.count) × (t.body ≡ s.body)
+      by_number f is few (closes own loose done there a same) = absurd (cc)
+      by_number f is few (refuses own loose why g place latches which a same) = let far = many g f latches a is in absurd (omega arith)
+      by_number f is few (refuses_again own g caught a same) = let far = many g f (latches_of k.latch caught) a is in absurd (omega arith)
+      by_number f is few (another why g a same at) = (known_of (λ f. f.place ≡ s.body.reader.count) a (ap (λ (f : Refusal). f.place) at) f is, ap (λ t. t.body) same)
 
 -- ---- when it accepts
 
@@ -181,11 +200,15 @@ same_closed {n} {l} {m} {k} e =
     let same : record { events = n; length = l } ≡ record { events = m; length = k } = cc in
     (ap (λ (c : Closed). c.events) same, ap (λ (c : Closed). c.length) same)
 
-pub closes_right : {lends : Bool} {v : View} {h : List Moment} {s t : State} {a : Answer} (y : Story lends v h s) → phase h ≡ running (record { start = y.start; length = y.size }) →
-    Made (Meets (close_call (token 0 (record { start = y.start; length = y.size })) s)) CloseAnswer a t → Closes v y.start y.size y.es a
-closes_right {lends} {v} {h} {s} {t} {a} y on made =
+pub closes_right : {lends : Bool} {v : View} {h : List Moment} {s t : State} {a : Answer} (y : Story lends v h s) → phase h ≡ running (record { start = y.start; length = y.size }) → {r : Option Refusal} → s.latched ≡ r →
+    Made (Meets (close_call (token 0 (record { start = y.start; length = y.size })) s)) CloseAnswer a t → Closes v y.start y.size r y.es (y.start + length y.taken) a
+closes_right {lends} {v} {h} {s} {t} {a} y on latched made =
     let (own, i) = in_pdu_now y on in
-    record { accepts = accepts refl own i (close_came made); accepted = λ n l is. accepted i n l is (close_came made) }
+    record {
+      accepts = accepts refl own i (close_came made);
+      accepted = λ n l is. accepted i n l is (close_came made);
+      refused = λ free f is. refused own (live_now i (latched ∙ free)) f is (latched ∙ free) (close_came made);
+    }
   where
     whole : Extent
     whole = record { start = y.start; length = y.size }
@@ -214,7 +237,7 @@ closes_right {lends} {v} {h} {s} {t} {a} y on made =
               },
               sym told,
             )
-    accepted i n l is (refuses own loose why f place latches b same) = absurd (cc)
+    accepted i n l is (refuses own loose why f place latches which b same) = absurd (cc)
     accepted i n l is (refuses_again own f caught b same) = absurd (cc)
     accepted i n l is (another why f b same is_token) = absurd (cc)
 
@@ -232,6 +255,27 @@ closes_right {lends} {v} {h} {s} {t} {a} y on made =
       where
         by : CloseCame whole s t a → finished s.body ≡ true → s.body.reader.count ≡ y.start + y.size → a ≡ answer.Closed (record { events = length y.es; length = y.size })
         by (closes mine free done at b same) f c = b ∙ ap (λ n. answer.Closed (record { events = n; length = y.size })) live.counts
-        by (refuses mine free why f place latches b same) done at = absurd (why done at)
+        by (refuses mine free why f place latches which b same) done at = absurd (why done at)
         by (refuses_again mine f caught b same) done at = absurd (cc)
         by (another why f b same is_token) done at = absurd (why own)
+
+    -- which question it was
+    refused : s.pdu ≡ Some whole → Live lends v y.start y.size y.taken y.es s.body → (f : Refusal) → a ≡ answer.Refused f → s.latched ≡ None → CloseCame whole s t a →
+        ((number_of f.cause ≡ 15) × ((w : Value) → Ended v y.start y.es (y.start + length y.taken) w → ⊥)) ⊎ ((number_of f.cause ≡ 16) × (w : Value) × Ended v y.start y.es (y.start + length y.taken) w)
+    refused own live f is free (closes mine loose done there b same) = absurd (cc)
+    refused own live f is free (refuses mine loose why g place latches which b same) =
+        known_of (λ f. ((number_of f.cause ≡ 15) × ((w : Value) → Ended v y.start y.es (y.start + length y.taken) w → ⊥)) ⊎ ((number_of f.cause ≡ 16) × (w : Value) × Ended v y.start y.es (y.start + length y.taken) w)) b (by which) f is
+      where
+        by : {n : ℕ} → ((n ≡ 15) × (finished s.body ≡ false)) ⊎ ((n ≡ 16) × (finished s.body ≡ true)) →
+            ((n ≡ 15) × ((w : Value) → Ended v y.start y.es (y.start + length y.taken) w → ⊥)) ⊎ ((n ≡ 16) × (w : Value) × Ended v y.start y.es (y.start + length y.taken) w)
+        by (inl (number, going)) = inl (number, λ w ended. still_going (nothing_open y.passing w ended))
+          where
+            still_going : s.body.opens ≡ [] → ⊥
+            still_going closed =
+                let calm = none_awaited (lent_bytes lends v) s.body.unread s.body.opens live.ready.waits closed in
+                let done : finished s.body ≡ true = rw (calm, closed) refl in
+                let z : false ≡ true = sym going ∙ done in
+                absurd (cc)
+        by (inr (number, done)) = let (w, ended) = has_ended y.passing (all_passed s.body done).1 in inr (number, w, ended)
+    refused own live f is free (refuses_again mine g caught b same) = absurd (cc)
+    refused own live f is free (another why g b same at) = absurd (why own)

@@ -54,7 +54,7 @@ rows_keyed lends n cs m same e = by_limits lends (by_case (and_cases (ltb 0 n) (
 module _ (lends : Bool) (input : List ℕ) (space : Option ℕ) (b : Body) (ready : Ready lends input b) (calm : b.unread ≡ None) where
   -- a text is awaited, and then its bytes are read
   awaited_made : (k : TextKind) (n t : ℕ) (w : Width) (v : View) → Tagged k t → Fits w (pos n) → TextWanted k (levels input b.opens) → Gotten lends b.end b.reader v (t ∷ count_encoding w n) →
-      Made lends input b (text_step lends space (record { kind = k; len = n }) (awaiting b v (record { kind = k; len = n })))
+      Made lends input space b (text_step lends space (record { kind = k; len = n }) (awaiting b v (record { kind = k; len = n })))
   awaited_made k n t w v tag fits wanted g =
       made_behind lends input b c
       (record {
@@ -69,7 +69,7 @@ module _ (lends : Bool) (input : List ℕ) (space : Option ℕ) (b : Body) (read
         events = refl;
         inside = g.inside;
       })
-      (text_step lends space u c) (text_made lends input c awaits space u refl)
+      space (text_step lends space u c) (text_made lends input c awaits space u refl)
     where
       u : Unread
       u = record { kind = k; len = n }
@@ -101,11 +101,11 @@ module _ (lends : Bool) (input : List ℕ) (space : Option ℕ) (b : Body) (read
 
     module _ (w : View) where
       -- what is refused behind a tag
-      stopped_behind : {t : ℕ} → Peeked lends b.end b.reader t w → (f : Refusal) (u : View) → Halted b.end (discarded lends w) f u → Stopped lends input b f (moved b u)
+      stopped_behind : {t : ℕ} → Peeked lends b.end b.reader t w → (f : Refusal) (u : View) → Halted b.end (discarded lends w) f u → Stopped lends input space b f (moved b u)
       stopped_behind s f u h = halted lends input b ready more f u (halted_behind s.gotten h)
 
       -- the tag is not taken
-      stopped_before : {t : ℕ} → Peeked lends b.end b.reader t w → (c : Cause) → latching c ≡ true → Stopped lends input b (record { place = w.count; cause = c }) (moved b w)
+      stopped_before : {t : ℕ} → Peeked lends b.end b.reader t w → (c : Cause) → latching c ≡ true → Stopped lends input space b (record { place = w.count; cause = c }) (moved b w)
       stopped_before s c h = halted lends input b ready more (record { place = w.count; cause = c }) w (halted_before s c h)
 
       tag_made : (e : Event) (t : value.Event) (n : ℕ) → Peeked lends b.end b.reader n w → Takes (limits lends) (levels input b.opens) (n ∷ []) t (filled (levels input b.opens)) →
@@ -223,7 +223,7 @@ module _ (lends : Bool) (input : List ℕ) (space : Option ℕ) (b : Body) (read
       -- ---- an item by its tag, where a gap may stand only before a cell
 
       module _ (may : Bool) (gap : may ≡ true → Takes (limits lends) (levels input b.opens) (0x0c ∷ []) value.absent (filled (levels input b.opens))) (t : ℕ) (s : Peeked lends b.end b.reader t w) where
-        no_item_made : Stopped lends input b (at (error.Byte kind.NextItem t) w.count) (moved b w)
+        no_item_made : Stopped lends input space b (at (error.Byte kind.NextItem t) w.count) (moved b w)
         no_item_made = stopped_before s (cause.Read (error.Byte kind.NextItem t)) refl
 
         tag_is : (n : ℕ) → eqb t n ≡ true → Peeked lends b.end b.reader n w

@@ -1,7 +1,8 @@
 -- The law of any list of calls.
-use Rattle.std.proofs.Common.{◌≡◌, ℕ, ◌+◌, Bool, List, [], ◌∷◌, ◌++◌, Some, None, Ok, Err, Option, Result, ◌⊎◌, inl, inr, refl, sym, ap, subst₂, ◌∙◌, subst, length, append_assoc, append-nil}
+use Rattle.std.proofs.Common.{◌≡◌, ℕ, ◌+◌, ◌≤◌, Bool, true, false, arith, List, [], ◌∷◌, ◌++◌, Some, None, Ok, Err, Option, Result, ◌⊎◌, inl, inr, refl, sym, ap, subst₂, ◌∙◌, subst, length, append_assoc, append-nil}
 use Rattle.read.specs.Reader.{View, Sound}
 use Rattle.format.specs.declared.refusal.Refusal.{Refusal}
+use Rattle.format.specs.Numbers.{latching, number_of}
 use Rattle.values.specs.Values.{Value}
 use Rattle.de.specs.declared.event.Event.{Event}
 use Rattle.de.specs.declared.event.Refused.{Refused}
@@ -11,16 +12,18 @@ use Rattle.de.specs.declared.entry.Call.{Call}
 use Rattle.de.specs.declared.entry.Call.TheVariants as call
 use Rattle.de.specs.declared.entry.Answer.{Answer}
 use Rattle.de.specs.declared.entry.Answer.TheVariants as answer
+use Rattle.de.specs.Steps.{Body}
 use Rattle.de.specs.Calls.{State, fresh}
 use Rattle.de.specs.Made.{Moment, AsTold, OpenAnswer, NextAnswer, SkipAnswer, CloseAnswer, MadeBy, Logged}
-use Rattle.runs.specs.Law.{running, phase, open_pdu, for_good, count_after, GoesOn, Reads, Whole, PassesEvents, NothingLeft, Turn, Suits, PduStory, StoryBy, Law}
+use Rattle.runs.specs.Law.{running, phase, open_pdu, for_good, count_after, GoesOn, Reads, Whole, PassesEvents, NothingLeft, ForGood, ForGoodOrRoom, Turn, Still, Suits, PduStory, StoryBy, Law}
 use Rattle.runs.proofs.Bodies.{drawn_none, has_ended, nothing_open}
-use Rattle.runs.proofs.Moments.{last_same, uncaught, latched_first}
+use Rattle.runs.proofs.Moments.{last_same, uncaught, latched_first, latches_of}
+use Rattle.runs.proofs.Turns.{asked, good_number, Leaves_all, leaves_all}
 use Rattle.runs.proofs.Story.{Stands, in_pdu, behind_it, off_it, Untouched, untouched_first, Story, truth, stays_inside, Kept, pdu_told, Tells}
-use Rattle.runs.proofs.Opening.{open_kept, opens_right, open_turn_right}
-use Rattle.runs.proofs.Closing.{close_kept, closes_right, close_turn_right}
-use Rattle.runs.proofs.Nexting.{next_kept, next_reads, next_turn_right, next_at_end, next_only_there}
-use Rattle.runs.proofs.Skipping.{skip_kept, skip_reads, skip_turn_right, skip_at_end, skip_only_there}
+use Rattle.runs.proofs.Opening.{open_kept, opens_right, open_taken_up}
+use Rattle.runs.proofs.Closing.{close_kept, closes_right, close_asked, close_leaves}
+use Rattle.runs.proofs.Nexting.{next_kept, next_reads, next_taken_up, next_at_end, next_only_there}
+use Rattle.runs.proofs.Skipping.{skip_kept, skip_reads, skip_taken_up, skip_at_end, skip_only_there}
 
 -- moments told one after the other, from one state to another
 pub data Told (lends : Bool) (s : State) : List Moment → State → Type 0 where
@@ -88,19 +91,51 @@ suits {lends} {s} {t} m l = go m.call l.made
     go call.Skip made = skipped made.0.result made.0.answers
     go (call.Close e) made = closed e made.0.result made.0.answers
 
-turns : {lends : Bool} {v : View} {h : List Moment} {s t : State} → Sound lends v → Kept lends v h s → (m : Moment) → Logged lends s m t → Turn (open_pdu (phase h)) (for_good h) m.call m.answer
-turns {lends} {v} {h} {s} {t} sound k m l = subst₂ (λ p o. Turn p o m.call m.answer) (pdu_told k) (latched_first k.latch) (go m.call refl l.made)
+turns : {lends : Bool} {v : View} {h : List Moment} {s t : State} → Sound lends v → Kept lends v h s → (m : Moment) → Logged lends s m t → Turn lends (open_pdu (phase h)) (for_good h) m.call m.answer
+turns {lends} {v} {h} {s} {t} sound k m l = subst₂ (λ p o. Turn lends p o m.call m.answer) (pdu_told k) (latched_first k.latch) (go m.call refl l.made)
   where
-    go : (c : Call) → m.call ≡ c → MadeBy lends s c m.answer m.text t → Turn s.pdu s.latched m.call m.answer
-    go call.Open is made = subst (λ c. Turn s.pdu s.latched c m.answer) (sym is) (open_turn_right sound k m t made.0)
-    go (call.Next room) is made = subst (λ c. Turn s.pdu s.latched c m.answer) (sym is) (next_turn_right k m is made.0)
-    go call.Skip is made = subst (λ c. Turn s.pdu s.latched c m.answer) (sym is) (skip_turn_right k m is made.0)
-    go (call.Close e) is made = subst (λ c. Turn s.pdu s.latched c m.answer) (sym is) (close_turn_right k m is made.0)
+    go : (c : Call) → m.call ≡ c → MadeBy lends s c m.answer m.text t → Turn lends s.pdu s.latched m.call m.answer
+    go call.Open is made = subst (λ c. Turn lends s.pdu s.latched c m.answer) (sym is) (asked (open_taken_up sound k m t made.0))
+    go (call.Next room) is made = subst (λ c. Turn lends s.pdu s.latched c m.answer) (sym is) (asked (next_taken_up k m is made.0))
+    go call.Skip is made = subst (λ c. Turn lends s.pdu s.latched c m.answer) (sym is) (asked (skip_taken_up k m is made.0))
+    go (call.Close e) is made = subst (λ c. Turn lends s.pdu s.latched c m.answer) (sym is) (close_asked k m is made.0)
+
+stills : {lends : Bool} {v : View} {h : List Moment} {s t : State} → Sound lends v → Kept lends v h s → (m : Moment) → Logged lends s m t → s.body.reader.count ≡ count_after v.count h → Still (count_after v.count h) (for_good h) m
+stills {lends} {v} {h} {s} {t} sound k m l counts = record {
+  out_of_turn = λ f is few. let (place, body) = all.by_number f is few in (place ∙ counts, stays body);
+  again = λ f first. stays (all.for_good f (latched_first k.latch ∙ first));
+  closing = λ e is. stays (close_leaves k m is (subst (λ c. MadeBy lends s c m.answer m.text t) is l.made).0).0;
+}
+  where
+    stays : t.body ≡ s.body → m.count ≡ count_after v.count h
+    stays same = l.counts ∙ ap (λ (b : Body). b.reader.count) same ∙ counts
+
+    latches : (f : Refusal) → s.latched ≡ Some f → latching f.cause ≡ true
+    latches f caught = latches_of k.latch caught
+
+    good : ForGood m.answer → (f : Refusal) → m.answer ≡ answer.Refused f → 3 ≤ number_of f.cause
+    good known f is = good_number f.cause (known f is)
+
+    good_or_room : ForGoodOrRoom lends m.answer → (f : Refusal) → m.answer ≡ answer.Refused f → 3 ≤ number_of f.cause
+    good_or_room known f is = by (known f is)
+      where
+        by : (latching f.cause ≡ true) ⊎ ((lends ≡ false) × (number_of f.cause ≡ 14)) → 3 ≤ number_of f.cause
+        by (inl latches) = good_number f.cause latches
+        by (inr (copies, full)) = omega arith
+
+    all : Leaves_all s t m.answer
+    all = go m.call refl l.made
+      where
+        go : (c : Call) → m.call ≡ c → MadeBy lends s c m.answer m.text t → Leaves_all s t m.answer
+        go call.Open is made = leaves_all latches good (open_taken_up sound k m t made.0)
+        go (call.Next room) is made = leaves_all latches good_or_room (next_taken_up k m is made.0)
+        go call.Skip is made = leaves_all latches good (skip_taken_up k m is made.0)
+        go (call.Close e) is made = (close_leaves k m is made.0).1
 
 goes_on : {lends : Bool} {v : View} {h : List Moment} {s t : State} → Kept lends v h s → (y : Story lends v h s) → phase h ≡ running (record { start = y.start; length = y.size }) → (m : Moment) → Logged lends s m t →
     GoesOn lends v y.start y.size (for_good h) y.es (y.start + length y.taken) m
 goes_on {lends} {v} {h} {s} {t} k y on m l = record {
-  closes = λ is. closes_right y on (subst (λ c. MadeBy lends s c m.answer m.text t) is l.made).0;
+  closes = λ is. closes_right y on (latched_first k.latch) (subst (λ c. MadeBy lends s c m.answer m.text t) is l.made).0;
   reads = λ w whole. reads w whole m.call l.made;
   at_end = λ free w ended passing. at_end (latched_first k.latch ∙ free) (nothing_open y.passing w ended) m.call passing l.made;
   only_there = λ left. has_ended y.passing (only_there m.call left l.made);
@@ -174,6 +209,7 @@ lawful {lends} {v} sound all h m k e =
     record {
       suits = suits m logged;
       turn = turns sound (kept_all sound before) m logged;
+      still = stills sound (kept_all sound before) m logged (count_told before);
       opens = λ is. opens_right sound (kept_all sound before) m here.state (count_told before) (subst (λ c. MadeBy lends s c m.answer m.text here.state) is logged.made).0;
       story = by here (kept_all sound here.told) logged.counts (tells logged);
     }
@@ -186,7 +222,7 @@ lawful {lends} {v} sound all h m k e =
           es = y.es;
           at = _;
           passed = y.passed;
-          truthful = truth y m tells;
+          truthful = truth y m (latched_first kept.latch) counts tells;
           inside = λ not_left. rw counts (stays_inside y not_left);
           goes_on = λ on n l is. goes_on kept y on n (u.next n l is).1;
         }

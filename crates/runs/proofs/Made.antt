@@ -18,14 +18,14 @@ use Rattle.runs.proofs.Took.{Gotten, gotten_on}
 use Rattle.runs.proofs.Reading.{Comes, Halted}
 
 -- what an event or a refusal says of the body before it
-abbrev pub Made : Bool → List ℕ → Body → Out → Type 0
-Made lends input b (gives (Some e) c x) = Stepped lends input b e c x
-Made lends input b (gives None c x) = Unit {0}
-Made lends input b (stops f c x) = Stopped lends input b f c
+abbrev pub Made : Bool → List ℕ → Option ℕ → Body → Out → Type 0
+Made lends input space b (gives (Some e) c x) = Stepped lends input b e c x
+Made lends input space b (gives None c x) = Unit {0}
+Made lends input space b (stops f c x) = Stopped lends input space b f c
 
 -- what comes, and then what is finished with this room
 abbrev pub Goes : Bool → List ℕ → Option ℕ → Body → Coming → Type 0
-Goes lends input space b m = Made lends input b (finishing lends space m)
+Goes lends input space b m = Made lends input space b (finishing lends space m)
 
 pub cond_made : (lends : Bool) (input : List ℕ) (space : Option ℕ) (b : Body) (q : Bool) (m n : Coming) → (q ≡ true → Goes lends input space b m) → (q ≡ false → Goes lends input space b n) →
     Goes lends input space b (cond q m n)
@@ -55,11 +55,11 @@ module _ (lends : Bool) (input : List ℕ) (b : Body) (ready : Ready lends input
     }
 
   -- a refusal for good
-  pub halted : (b.opens ≡ [] → ⊥) → (f : Refusal) (w : View) → Halted b.end b.reader f w → Stopped lends input b f (moved b w)
+  pub halted : {space : Option ℕ} → (b.opens ≡ [] → ⊥) → (f : Refusal) (w : View) → Halted b.end b.reader f w → Stopped lends input space b f (moved b w)
   halted more f w h = record { after = h.after; end = refl; opens = refl; events = refl; inside = h.inside; more = more; kind = inl h.latches }
 
 pub reading_made : {A : Type 0} (gave : A → View → Type 0) (left : Refusal → View → Type 0) (lends : Bool) (input : List ℕ) (space : Option ℕ) (b c : Body) (m : Outcome Refusal A)
-    (f : A → View → Coming) → Comes gave left m → ((r : Refusal) (w : View) → left r w → Stopped lends input b r (moved c w)) → ((a : A) (w : View) → gave a w → Goes lends input space b (f a w)) →
+    (f : A → View → Coming) → Comes gave left m → ((r : Refusal) (w : View) → left r w → Stopped lends input space b r (moved c w)) → ((a : A) (w : View) → gave a w → Goes lends input space b (f a w)) →
     Goes lends input space b (reading m c f)
 reading_made gave left lends input space b c (got a w) f h k l = l a w h
 reading_made gave left lends input space b c (bad r w) f h k l = k r w h

@@ -1,5 +1,5 @@
 -- A call of next: what it keeps, and what it answers over a whole body.
-use Rattle.std.proofs.Common.{◌≡◌, ℕ, ◌+◌, ◌≤◌, Bool, true, false, cond, List, [], ◌∷◌, ◌++◌, length, replicate, Some, None, Option, Result, ◌⊎◌, inl, inr, refl, sym, ap, ◌∙◌, subst, append_assoc, length-append, arith}
+use Rattle.std.proofs.Common.{◌≡◌, ℕ, ◌+◌, Bool, true, false, cond, List, [], ◌∷◌, ◌++◌, length, replicate, Some, None, Option, Result, ◌⊎◌, inl, inr, refl, sym, ap, ◌∙◌, subst, append_assoc, length-append, arith}
 use Rattle.std.proofs.lemmas.Bool.{lt-ltb, ltb-true}
 use Rattle.std.proofs.lemmas.List.{append_cancel_left}
 use Rattle.source.specs.Feed.{fronted}
@@ -17,16 +17,16 @@ use Rattle.de.specs.declared.entry.Call.TheVariants as call
 use Rattle.de.specs.declared.entry.Answer.{Answer}
 use Rattle.de.specs.declared.entry.Answer.TheVariants as answer
 use Rattle.de.specs.Shown.{shown}
-use Rattle.de.specs.Steps.{Body, Out, gives, stops, step, puts}
+use Rattle.de.specs.Steps.{Body, Out, gives, stops, step, puts, text_space}
 use Rattle.de.specs.Calls.{State, Meets, Off, telling, latch, here, in_body, next_by, next_turn, next_call, next_puts, turn_puts, unless_latched}
 use Rattle.de.specs.Made.{Moment, Made, NextAnswer}
-use Rattle.runs.specs.Law.{lent_bytes, running, phase, phase_after, first_for_good, RefusedAgrees, Agrees, Whole, hands_out, Cramped, Reads, Turn}
+use Rattle.runs.specs.Law.{lent_bytes, running, phase, phase_after, first_for_good, RefusedAgrees, Agrees, Whole, hands_out, Cramped, Reads, ForGoodOrRoom, is_open}
 use Rattle.runs.proofs.Stepped.{Stepped, Stopped, Waiting, Tight, can_give, must_wait}
 use Rattle.runs.proofs.Stepping.{step_gives, step_stops}
 use Rattle.runs.proofs.Ending.{step_none, step_done}
 use Rattle.runs.proofs.Bodies.{Live, passing_of, Advanced, advance, stopped_inside, wait, stuck, count_left, same_body, Outlook, none_awaited, at_the_end, more_comes, outlook}
 use Rattle.runs.proofs.Moments.{latch_none, latch_some, agrees_refused, as_told, latched_by}
-use Rattle.runs.proofs.Turns.{Untried, again, out_of_turn, untried_free, for_good_or_room, turn_as}
+use Rattle.runs.proofs.Turns.{Untried, again, out_of_turn, untried_free, Taken_up, untried, tried, known_of}
 use Rattle.runs.proofs.Story.{goes_on, stands_still, Story, story_on, story_still, Kept, Tells, quiet, Ongoing, ongoing, stays, in_pdu_now, live_now, unstuck}
 
 -- ---- what a call of next comes to
@@ -37,7 +37,7 @@ pub data NextCame (lends : Bool) (room : ℕ) (s t : State) (a : Answer) : Type 
   none : (o : Extent) → s.pdu ≡ Some o → s.latched ≡ None → (c : Body) (x : List ℕ) → step lends (Some room) s.body ≡ gives None c x → a ≡ answer.Done → t ≡ in_body s c → NextCame lends room s t a
   refuses : (o : Extent) → s.pdu ≡ Some o → s.latched ≡ None → (f : Refusal) (c : Body) (x : List ℕ) → step lends (Some room) s.body ≡ stops f c x → a ≡ answer.Refused f →
       Off f (latch f (in_body s c)) t → NextCame lends room s t a
-  tells_again : (f : Refusal) → a ≡ answer.Refused f → t ≡ telling f s → Untried s (s.pdu ≡ None) f → NextCame lends room s t a
+  tells_again : (f : Refusal) → a ≡ answer.Refused f → t ≡ telling f s → Untried s (is_open s.pdu) f → NextCame lends room s t a
 
 pub next_came : {lends : Bool} {room : ℕ} {s t : State} {a : Answer} → Made (Meets (next_call lends room s)) NextAnswer a t → NextCame lends room s t a
 next_came {lends} {room} {s} {t} {a} made = by_latch s.latched refl made.meets
@@ -52,7 +52,7 @@ next_came {lends} {room} {s} {t} {a} made = by_latch s.latched refl made.meets
     by_step o own loose (stops f c x) is put (comes, off) = refuses o own loose f c x is (as_told off.refused (answers comes)) off
 
     by_pdu : s.latched ≡ None → (p : Option Extent) → s.pdu ≡ p → Meets (next_turn p lends room s) made.result t → NextCame lends room s t a
-    by_pdu loose None own (comes, same) = tells_again (here cause.OutOfTurn s) (as_told (ap (λ t. t.refused) same) (answers comes)) same (out_of_turn loose own refl)
+    by_pdu loose None own (comes, same) = tells_again (here cause.OutOfTurn s) (as_told (ap (λ t. t.refused) same) (answers comes)) same (out_of_turn loose (ap is_open own) refl)
     by_pdu loose (Some o) own meets =
         by_step o own loose (step lends (Some room) s.body) refl (ap (λ l. next_puts l lends room s) loose ∙ ap (λ p. turn_puts p lends room s) own) meets
 
@@ -89,7 +89,7 @@ module _ {lends : Bool} {v : View} {h : List Moment} {s : State} (k : Kept lends
       Off f (latch f (in_body s c)) t → Kept lends v (h ++ (m ∷ [])) t
   refused_kept g loose t f c x stop a off = go st.kind
     where
-      st : Stopped lends (lent_bytes lends v) s.body f c
+      st : Stopped lends (lent_bytes lends v) (Some room) s.body f c
       st = step_stops (Some room) s.body f c x g.live.ready stop
 
       agrees : (d : ℕ) → Agrees lends v m m.answer [] d d
@@ -98,12 +98,12 @@ module _ {lends : Bool} {v : View} {h : List Moment} {s : State} (k : Kept lends
       counts : t.body.reader.count ≡ c.reader.count
       counts = count_left f.cause c.reader t.body.reader off.body.reader
 
-      go : (latching f.cause ≡ true) ⊎ ((f.cause ≡ cause.Read error.Room) × Waiting lends (lent_bytes lends v) s.body c) → Kept lends v (h ++ (m ∷ [])) t
+      go : (latching f.cause ≡ true) ⊎ ((f.cause ≡ cause.Read error.Room) × (text_space lends (Some room) ≡ None → ⊥) × Waiting lends (lent_bytes lends v) s.body c) → Kept lends v (h ++ (m ∷ [])) t
       go (inl latches) =
           let caught : t.latched ≡ Some f = off.latched ∙ latched_by s.latched latches in
           let stands = stuck (Some room) g.live st stop latches t.body off.body.opens off.body.events (rw counts (stopped_inside g.live st)) in
           record { latch = latch_some h m caught g.unlatched a latches; tale = inr (story_still g.story m t (agrees _) stands.passing off.last (rw caught stands.after) (stays g m t (calm m.answer) off.pdu (rw caught (stands_still stands)))) }
-      go (inr (full, waiting)) =
+      go (inr (full, limited, waiting)) =
           let free : latching f.cause ≡ false = ap latching full in
           let still : t.latched ≡ None = off.latched ∙ ap (λ b. cond b (Some f) s.latched) free ∙ loose in
           let live = subst (λ b. Live lends v g.story.start g.story.size g.story.taken g.story.es b) (sym (same_body full off.body)) (wait g.live st waiting) in
@@ -134,21 +134,27 @@ module _ {lends : Bool} {v : View} {h : List Moment} {s : State} (k : Kept lends
 
   -- ---- what decides it
 
-  pub next_turn_right : {t : State} → Made (Meets (next_call lends room s)) NextAnswer m.answer t → Turn s.pdu s.latched (call.Next room) m.answer
-  next_turn_right {t} made = go (next_came made)
+  pub next_taken_up : {t : State} → Made (Meets (next_call lends room s)) NextAnswer m.answer t → Taken_up s t (is_open s.pdu) (ForGoodOrRoom lends m.answer) m.answer
+  next_taken_up {t} made = go (next_came made)
     where
-      number : {A : Type 0} (f : Refusal) → (latching f.cause ≡ true) ⊎ ((f.cause ≡ cause.Read error.Room) × A) → (latching f.cause ≡ true) ⊎ (number_of f.cause ≡ 14)
-      number f (inl latches) = inl latches
-      number f (inr (full, rest)) = inr (ap number_of full)
+      -- a reader that lends needs no room
+      copies : (b : Bool) → (text_space b (Some room) ≡ None → ⊥) → b ≡ false
+      copies true limited = absurd (limited refl)
+      copies false limited = refl
 
-      go : NextCame lends room s t m.answer → Turn s.pdu s.latched (call.Next room) m.answer
-      go (one o own loose e c x gave put a same) = turn_as s (call.Next room) m.answer own loose (λ f is. absurd (cc))
-      go (none o own loose c x gave a same) = turn_as s (call.Next room) m.answer own loose (λ f is. absurd (cc))
+      kind : (f : Refusal) {A : Type 0} → (latching f.cause ≡ true) ⊎ ((f.cause ≡ cause.Read error.Room) × (text_space lends (Some room) ≡ None → ⊥) × A) →
+          (latching f.cause ≡ true) ⊎ ((lends ≡ false) × (number_of f.cause ≡ 14))
+      kind f (inl latches) = inl latches
+      kind f (inr (full, limited, waiting)) = inr (copies lends limited, ap number_of full)
+
+      go : NextCame lends room s t m.answer → Taken_up s t (is_open s.pdu) (ForGoodOrRoom lends m.answer) m.answer
+      go (one o own loose e c x gave put a same) = tried loose (ap is_open own) (λ f is. absurd (cc))
+      go (none o own loose c x gave a same) = tried loose (ap is_open own) (λ f is. absurd (cc))
       go (refuses o own loose f c x stop a off) =
           let g = ongoing k loose own in
-          turn_as s (call.Next room) m.answer own loose (for_good_or_room a (number f (step_stops (Some room) s.body f c x g.live.ready stop).kind))
-      go (tells_again f a same (again caught)) = turn_as s (call.Next room) m.answer refl caught a
-      go (tells_again f a same (out_of_turn loose shut is)) = turn_as s (call.Next room) m.answer shut loose (f, a, ap (λ (f : Refusal). number_of f.cause) is)
+          tried loose (ap is_open own)
+          (known_of (λ f. (latching f.cause ≡ true) ⊎ ((lends ≡ false) × (number_of f.cause ≡ 14))) a (kind f (step_stops (Some room) s.body f c x g.live.ready stop).kind))
+      go (tells_again f a same why) = untried f a same why
 
 -- ---- what it answers over a whole body
 
@@ -163,7 +169,7 @@ answered_by {a = a} z loose own at (one o is free e c x step put answer same) = 
 answered_by {a = a} z loose own at (none o is free c x step answer same) = subst (λ z. AnsweredBy z a) (sym step ∙ at) answer
 answered_by {a = a} z loose own at (refuses o is free f c x step answer off) = subst (λ z. AnsweredBy z a) (sym step ∙ at) answer
 answered_by z loose own at (tells_again f answer same (again caught)) = absurd (cc)
-answered_by z loose own at (tells_again f answer same (out_of_turn free shut is)) = absurd (cc)
+answered_by z loose own at (tells_again f answer same (out_of_turn free shut is)) = let both = sym shut ∙ ap is_open own in absurd (cc)
 
 tight_room : {lends : Bool} {room : ℕ} (w : Value) {es : List value.Event} (x : List value.Event) {t : value.Event} → events w ≡ es ++ (t ∷ x) → Tight lends (Some room) t → Cramped lends w es room
 tight_room {room = room} w {es} x {t} told i =

@@ -1,7 +1,7 @@
 -- A call of open: what it keeps, and when it accepts.
 use Rattle.std.proofs.Common.{◌≡◌, ℕ, ◌+◌, Bool, true, false, List, [], ◌∷◌, ◌++◌, length, Some, None, Option, Result, ◌⊎◌, inl, inr, refl, sym, ap, ◌∙◌, subst, arith}
 use Rattle.read.specs.Reader.{View, Sound}
-use Rattle.format.specs.Numbers.{number_of}
+use Rattle.format.specs.Numbers.{latching}
 use Rattle.format.specs.declared.refusal.Refusal.{Refusal}
 use Rattle.format.specs.declared.refusal.Cause.TheVariants as cause
 use Rattle.values.specs.Limits.{RoomForKeyBytes}
@@ -17,7 +17,7 @@ use Rattle.de.specs.declared.entry.Answer.{Answer}
 use Rattle.de.specs.declared.entry.Answer.TheVariants as answer
 use Rattle.de.specs.Calls.{State, Meets, Off, telling, latch, here, opened, unopened, open_by, open_turn, open_call, unless_latched}
 use Rattle.de.specs.Made.{Moment, Made, OpenAnswer}
-use Rattle.runs.specs.Law.{lent_bytes, from, limits, Phase, none_yet, running, over, left, open_phase, phase, phase_after, open_pdu, first_for_good, for_good, RefusedAgrees, opens, count_after, HeaderAt, Opens, Turn}
+use Rattle.runs.specs.Law.{lent_bytes, from, limits, Phase, none_yet, running, over, left, open_phase, phase, phase_after, open_pdu, first_for_good, for_good, RefusedAgrees, opens, count_after, HeaderAt, Opens, ForGood, none_open}
 use Rattle.runs.proofs.Reached.{reached_first}
 use Rattle.runs.proofs.Taking.{none_taken}
 use Rattle.runs.proofs.Stepped.{Solid}
@@ -26,11 +26,11 @@ use Rattle.runs.proofs.Reading.{Comes, Halted}
 use Rattle.runs.proofs.Heading.{Headed, from_here, header_reads, header_there}
 use Rattle.runs.proofs.Bodies.{Drawn, drawn_more, from_count, Live, passing_of, passing_still}
 use Rattle.runs.proofs.Moments.{phase_last, drawn_of, latched_first, latch_none, latch_some, agrees_refused, as_told, latched_by}
-use Rattle.runs.proofs.Turns.{Untried, again, out_of_turn, untried_free, for_good_only, turn_as}
+use Rattle.runs.proofs.Turns.{Untried, again, out_of_turn, untried_free, Taken_up, untried, tried, known_of}
 use Rattle.runs.proofs.Story.{goes_on, Stands, in_pdu, behind_it, off_it, Story, story_still, Untouched, untouched_on, Kept, pdu_told, Tells, quiet}
 
 solid_first : {lends : Bool} {v : View} → Sound lends v → Solid lends (lent_bytes lends v) v
-solid_first s = record { octets = s.octets; kept_all = s.kept_all; whole = ap (λ b. lent_bytes b _) }
+solid_first {v = v} s = record { octets = s.octets; kept_all = s.kept_all; whole = ap (λ b. lent_bytes b v) }
 
 solid_drawn : {lends : Bool} {v w : View} → Sound lends v → Drawn lends v w → Solid lends (lent_bytes lends v) w
 solid_drawn s d = solid_on d.took (solid_first s)
@@ -61,7 +61,7 @@ room_at_first false = omega arith
 pub data OpenCame (lends : Bool) (s t : State) (a : Answer) : Type 0 where
   begins : s.latched ≡ None → s.pdu ≡ None → (e : Header) (w : View) → header_read lends s.body.reader ≡ got e w → a ≡ answer.Opened e → t ≡ opened s e w → OpenCame lends s t a
   refuses : s.latched ≡ None → s.pdu ≡ None → (f : Refusal) (w : View) → header_read lends s.body.reader ≡ bad f w → a ≡ answer.Refused f → Off f (latch f (unopened s w)) t → OpenCame lends s t a
-  tells_again : (f : Refusal) → a ≡ answer.Refused f → t ≡ telling f s → Untried s ((e : Extent) × (s.pdu ≡ Some e)) f → OpenCame lends s t a
+  tells_again : (f : Refusal) → a ≡ answer.Refused f → t ≡ telling f s → Untried s (none_open s.pdu) f → OpenCame lends s t a
 
 pub open_came : {lends : Bool} {s t : State} {a : Answer} → Made (Meets (open_call lends s)) OpenAnswer a t → OpenCame lends s t a
 open_came {lends} {s} {t} {a} made = by_latch s.latched refl made.meets
@@ -75,7 +75,7 @@ open_came {lends} {s} {t} {a} made = by_latch s.latched refl made.meets
 
     by_pdu : s.latched ≡ None → (p : Option Extent) → s.pdu ≡ p → Meets (open_turn p lends s) made.result t → OpenCame lends s t a
     by_pdu loose None shut meets = by_read loose shut (header_read lends s.body.reader) refl meets
-    by_pdu loose (Some e) shut (gave, same) = tells_again (here cause.OutOfTurn s) (as_told (ap (λ t. t.refused) same) (answers gave)) same (out_of_turn loose (e, shut) refl)
+    by_pdu loose (Some e) shut (gave, same) = tells_again (here cause.OutOfTurn s) (as_told (ap (λ t. t.refused) same) (answers gave)) same (out_of_turn loose (ap none_open shut) refl)
 
     by_latch : (o : Option Refusal) → s.latched ≡ o → Meets (unless_latched o s (open_turn s.pdu lends s)) made.result t → OpenCame lends s t a
     by_latch None loose meets = by_pdu loose s.pdu refl meets
@@ -180,7 +180,7 @@ module _ {lends : Bool} {v : View} {h : List Moment} {s : State} (sound : Sound 
           by (begins loose shut e w read a same) = let both = sym read ∙ there.1 in let header : e ≡ record { capabilities = caps; start = start; length = size } = cc in a ∙ ap answer.Opened header
           by (refuses loose shut f w read a off) = let both = sym read ∙ there.1 in absurd (cc)
           by (tells_again f a same (again caught)) = let both = sym free ∙ caught in absurd (cc)
-          by (tells_again f a same (out_of_turn loose (e, own) is)) = let both = sym own ∙ pdu_told k ∙ none in absurd (cc)
+          by (tells_again f a same (out_of_turn loose own is)) = let both = sym own ∙ ap none_open (pdu_told k ∙ none) in absurd (cc)
 
       accepted : (caps start size : ℕ) → m.answer ≡ answer.Opened (record { capabilities = caps; start = start; length = size }) → OpenCame lends s t m.answer →
           (for_good h ≡ None) × (open_pdu (phase h) ≡ None) × HeaderAt v (count_after v.count h) caps start size
@@ -198,11 +198,10 @@ module _ {lends : Bool} {v : View} {h : List Moment} {s : State} (sound : Sound 
 
   -- ---- what decides it
 
-  pub open_turn_right : Made (Meets (open_call lends s)) OpenAnswer m.answer t → Turn s.pdu s.latched call.Open m.answer
-  open_turn_right made = go (open_came made)
+  pub open_taken_up : Made (Meets (open_call lends s)) OpenAnswer m.answer t → Taken_up s t (none_open s.pdu) (ForGood m.answer) m.answer
+  open_taken_up made = go (open_came made)
     where
-      go : OpenCame lends s t m.answer → Turn s.pdu s.latched call.Open m.answer
-      go (begins loose shut e w read a same) = turn_as s call.Open m.answer shut loose (λ f is. absurd (cc))
-      go (refuses loose shut f w read a off) = let halted = header_came loose read in turn_as s call.Open m.answer shut loose (for_good_only a halted.latches)
-      go (tells_again f a same (again caught)) = turn_as s call.Open m.answer refl caught a
-      go (tells_again f a same (out_of_turn loose (e, own) is)) = turn_as s call.Open m.answer own loose (f, a, ap (λ (f : Refusal). number_of f.cause) is)
+      go : OpenCame lends s t m.answer → Taken_up s t (none_open s.pdu) (ForGood m.answer) m.answer
+      go (begins loose shut e w read a same) = tried loose (ap none_open shut) (λ f is. absurd (cc))
+      go (refuses loose shut f w read a off) = let halted = header_came loose read in tried loose (ap none_open shut) (known_of (λ f. latching f.cause ≡ true) a halted.latches)
+      go (tells_again f a same why) = untried f a same why

@@ -3,7 +3,7 @@ use Rattle.std.proofs.Common.{◌≡◌, ℕ, suc, ◌+◌, ◌<◌, ◌≤◌, 
 use Rattle.std.proofs.lemmas.Bool.{eq-eqb, ne_eqb}
 use Rattle.std.proofs.Math.Seq.{drop-append_seam}
 use Rattle.read.specs.Reader.{View}
-use Rattle.format.specs.Numbers.{latching, number_of}
+use Rattle.format.specs.Numbers.{latching}
 use Rattle.format.specs.declared.refusal.Refusal.{Refusal}
 use Rattle.format.specs.declared.refusal.ReadError.TheVariants as error
 use Rattle.format.specs.declared.refusal.Cause.TheVariants as cause
@@ -11,18 +11,17 @@ use Rattle.values.specs.Values.{Value, events, Event}
 use Rattle.values.specs.Limits.{Limits, none}
 use Rattle.room.specs.Open.{Column, Open, items, pairs, field, rows, row, cell, nesting}
 use Rattle.room.specs.Open as room
-use Rattle.bunser.specs.declared.text.Unread.{Unread}
 use Rattle.de.specs.declared.event.Event as event
 use Rattle.de.specs.declared.event.Refused.{Refused}
 use Rattle.de.specs.declared.pdu.Extent.{Extent}
 use Rattle.de.specs.declared.entry.Call.TheVariants as call
 use Rattle.de.specs.declared.entry.Answer.{Answer}
 use Rattle.de.specs.declared.entry.Answer.TheVariants as answer
-use Rattle.de.specs.Steps.{Body, gives, stops, step, counted, moved, Apart}
+use Rattle.de.specs.Steps.{Body, gives, stops, step, counted, Apart, text_space}
 use Rattle.de.specs.Calls as calls
 use Rattle.de.specs.Calls.{State, telling, latch_by, here, drawn, drawn_by, drawn_view, Skips, Skip, Skipped, SkipTold, SkipTurn, SkipBy, SkipCall, up_to}
 use Rattle.de.specs.Made.{Moment, Made, SkipAnswer}
-use Rattle.runs.specs.Law.{lent_bytes, limits, running, phase, phase_after, first_for_good, deeper, stretch, Stretched, RefusedAgrees, Agrees, Whole, Reads, Turn}
+use Rattle.runs.specs.Law.{lent_bytes, limits, running, phase, phase_after, first_for_good, deeper, stretch, Stretched, RefusedAgrees, Agrees, Whole, Reads, ForGood, is_open}
 use Rattle.runs.proofs.Taking.{Level, levels, Front}
 use Rattle.runs.proofs.Coming as coming
 use Rattle.runs.proofs.Coming.{Completes}
@@ -31,9 +30,9 @@ use Rattle.runs.proofs.Stepped.{Stepped, Stopped, Waiting}
 use Rattle.runs.proofs.Stepping.{step_gives, step_stops}
 use Rattle.runs.proofs.Ending.{step_none, step_done}
 use Rattle.runs.proofs.Drawing.{step_draws}
-use Rattle.runs.proofs.Bodies.{Live, Stuck, passing_of, Advanced, advance, counts_one, before_end, after_end, wait, stuck, never_stuck, count_left, same_body, none_awaited, still_to_come}
+use Rattle.runs.proofs.Bodies.{Live, Stuck, passing_of, Advanced, advance, counts_one, before_end, after_end, stuck, count_left, none_awaited, still_to_come}
 use Rattle.runs.proofs.Moments.{latch_none, latch_some, as_told, latched_by}
-use Rattle.runs.proofs.Turns.{Untried, again, out_of_turn, untried_free, untried_place, for_good_or_room, turn_as}
+use Rattle.runs.proofs.Turns.{Untried, again, out_of_turn, untried_free, untried_place, Taken_up, untried, tried, known_of}
 use Rattle.runs.proofs.Story.{goes_on, stands_still, Story, story_on, Kept, Tells, quiet, Ongoing, ongoing, stays, in_pdu_now, live_now, unstuck}
 
 -- as deep with the names of the columns as without
@@ -55,24 +54,16 @@ data StretchPassed (lends : Bool) (v : View) (start : ℕ) (down : ℕ) (b t : B
   something : {more : List Event} → Runs (limits lends) down (levels (lent_bytes lends v) b.opens) more (levels (lent_bytes lends v) t.opens) → t.reader.count ≡ start + length now →
       StretchPassed lends v start down b t taken now more
 
--- what a refusal leaves: a body that goes on no more, or one that awaits a text
-abbrev Left : Bool → View → ℕ → ℕ → List ℕ → List Event → Refusal → Body → Type 0
-Left lends v start size now es f t = ((latching f.cause ≡ true) × Stuck lends v start size now es f t) ⊎ ((f.cause ≡ cause.Read error.Room) × Live lends v start size now es t)
-
 data SkipEnd (lends : Bool) (v : View) (start size : ℕ) (taken : List ℕ) (es : List Event) (b : Body) (down n : ℕ) (t : Body) : Result ℕ Refusal → Type 0 where
   done : (more : List Event) (now : List ℕ) {k : ℕ} → Live lends v start size now (es ++ more) t → k ≡ n + length more → StretchPassed lends v start down b t taken now more →
       SkipEnd lends v start size taken es b down n t (Ok k)
-  cut : (more : List Event) (now : List ℕ) {f : Refusal} → length taken ≤ length now → start + length now ≤ f.place →
-      Left lends v start size now (es ++ more) f t → ((d : ℕ) → nesting (levels (lent_bytes lends v) b.opens) ≡ down + d → stretch d more ≡ length more) →
-      ((w : Value) → Whole lends v start size w → ⊥) → SkipEnd lends v start size taken es b down n t (Err f)
+  cut : (more : List Event) (now : List ℕ) {f : Refusal} → length taken ≤ length now → latching f.cause ≡ true → Stuck lends v start size now (es ++ more) f t →
+      ((d : ℕ) → nesting (levels (lent_bytes lends v) b.opens) ≡ down + d → stretch d more ≡ length more) → SkipEnd lends v start size taken es b down n t (Err f)
 
--- where there is no room, nothing was drawn
-undrawn_for_room : (lends : Bool) (f : Refusal) (b : Body) → f.cause ≡ cause.Read error.Room → drawn lends f b ≡ b
-undrawn_for_room lends f b full = ap (λ c. moved b (drawn_view lends c b)) full ∙ ap (moved b) (stays_there b.unread)
-  where
-    stays_there : (u : Option Unread) → drawn_by lends u error.Room b.reader ≡ b.reader
-    stays_there None = refl
-    stays_there (Some u) = refl
+-- no room is needed
+no_space : (lends : Bool) → text_space lends None ≡ None
+no_space true = refl
+no_space false = refl
 
 module _ {lends : Bool} {v : View} {start size : ℕ} (small : start + size ≤ 1152921504606846976) where
   nothing_ends : {taken : List ℕ} {es : List Event} {b : Body} {down n : ℕ} → Live lends v start size taken es b → b.opens ≡ [] → SkipEnd lends v start size taken es b down n b (Ok n)
@@ -80,20 +71,20 @@ module _ {lends : Bool} {v : View} {start size : ℕ} (small : start + size ≤ 
 
   refused_ends : {taken : List ℕ} {es : List Event} {b c t : Body} {down n : ℕ} {f : Refusal} {x : List ℕ} → Live lends v start size taken es b → step lends None b ≡ stops f c x →
       Apart f (drawn lends f c) t → SkipEnd lends v start size taken es b down n t (Err f)
-  refused_ends {taken} {es} {b} {c} {t} {f = f} {x = x} l stop apart = cut [] taken (omega arith) (let after = st.after in let count = l.count in omega arith) (kind st.kind) (λ d at. refl) (never_stuck None l st.more stop (inr refl))
+  refused_ends {taken} {es} {b} {c} {t} {f = f} {x = x} l stop apart = cut [] taken (omega arith) latches (rw (append-nil es) (stuck None l st stop latches t apart.opens apart.events inside)) (λ d at. refl)
     where
-      st : Stopped lends (lent_bytes lends v) b f c
+      st : Stopped lends (lent_bytes lends v) None b f c
       st = step_stops None b f c x l.ready stop
 
       inside : t.reader.count ≤ start + size
       inside = rw (count_left f.cause (drawn lends f c).reader t.reader apart.reader) (after_end (drawn lends f c).reader.count l (rw (← st.end) (step_draws lends None b f c x stop (rw st.end (st.inside (before_end l))))))
 
-      kind : (latching f.cause ≡ true) ⊎ ((f.cause ≡ cause.Read error.Room) × Waiting lends (lent_bytes lends v) b c) →
-          Left lends v start size taken (es ++ []) f t
-      kind (inl latches) = inl (latches, rw (append-nil es) (stuck None l st stop latches t apart.opens apart.events inside))
-      kind (inr (full, waiting)) =
-          let same : t ≡ c = same_body full apart ∙ undrawn_for_room lends f c full in
-          inr (full, rw (append-nil es) (subst (λ b. Live lends v start size taken es b) (sym same) (wait l st waiting)))
+      roomy : (latching f.cause ≡ true) ⊎ ((f.cause ≡ cause.Read error.Room) × (text_space lends None ≡ None → ⊥) × Waiting lends (lent_bytes lends v) b c) → latching f.cause ≡ true
+      roomy (inl latches) = latches
+      roomy (inr (full, limited, waiting)) = absurd (limited (no_space lends))
+
+      latches : latching f.cause ≡ true
+      latches = roomy st.kind
 
   -- an event more before what passes
   one_before : {taken : List ℕ} {es : List Event} {b c t : Body} {e : event.Event} {down n m : ℕ} {r : Result ℕ Refusal} {x : List ℕ} (st : Stepped lends (lent_bytes lends v) b e c x) (front : List ℕ) →
@@ -105,9 +96,9 @@ module _ {lends : Bool} {v : View} {start size : ℕ} (small : start + size ≤ 
       behind : {more : List Event} → StretchPassed lends v start down c t adv.taken_now now more → StretchPassed lends v start down b t taken now (st.says ∷ more)
       behind (nothing closed same) = absurd (omega (arith, ap nesting closed))
       behind (something runs here) = something (onward (st.takes front fronts) (rw (named_nesting (lent_bytes lends v) c.opens) deep) runs) here
-  one_before {taken} {es} {b} {c} {t} {down = down} st front fronts adv deep one (cut more now {f} grows at left short none_whole) =
+  one_before {taken} {es} {b} {c} {t} {down = down} st front fronts adv deep one (cut more now {f} grows latches stands short) =
       let grown = adv.grows in
-      cut (st.says ∷ more) now (omega arith) at (subst (λ es. Left lends v start size now es f t) (append_assoc es (st.says ∷ []) more) left) longer none_whole
+      cut (st.says ∷ more) now (omega arith) latches (subst (λ es. Stuck lends v start size now es f t) (append_assoc es (st.says ∷ []) more) stands) longer
     where
       longer : (d : ℕ) → nesting (levels (lent_bytes lends v) b.opens) ≡ down + d → stretch d (st.says ∷ more) ≡ suc (length more)
       longer d there =
@@ -136,7 +127,7 @@ pub data SkipCame (lends : Bool) (s t : State) (a : Answer) : Type 0 where
       SkipCame lends s t a
   refuses : (o : Extent) → s.pdu ≡ Some o → s.latched ≡ None → (f : Refusal) → Skip lends s.body (Err f) t.body → a ≡ answer.Refused f → t.latched ≡ latch_by f s.latched → t.pdu ≡ s.pdu →
       t.last ≡ s.last → SkipCame lends s t a
-  tells_again : (f : Refusal) → a ≡ answer.Refused f → t ≡ telling f s → Untried s (s.pdu ≡ None) f → SkipCame lends s t a
+  tells_again : (f : Refusal) → a ≡ answer.Refused f → t ≡ telling f s → Untried s (is_open s.pdu) f → SkipCame lends s t a
 
 pub skip_came : {lends : Bool} {s t : State} {a : Answer} → Made (SkipCall lends s) SkipAnswer a t → SkipCame lends s t a
 skip_came {lends} {s} {t} {a} made = by_latch s.latched refl made.meets
@@ -150,7 +141,7 @@ skip_came {lends} {s} {t} {a} made = by_latch s.latched refl made.meets
     by_outcome o own loose pdu end (Err f) skip (comes, latched, told) = refuses o own loose f skip (as_told told (answers comes)) latched pdu end
 
     by_pdu : s.latched ≡ None → (p : Option Extent) → s.pdu ≡ p → SkipTurn p lends s made.result t → SkipCame lends s t a
-    by_pdu loose None own (comes, same) = tells_again (here cause.OutOfTurn s) (as_told (ap (λ t. t.refused) same) (answers comes)) same (out_of_turn loose own refl)
+    by_pdu loose None own (comes, same) = tells_again (here cause.OutOfTurn s) (as_told (ap (λ t. t.refused) same) (answers comes)) same (out_of_turn loose (ap is_open own) refl)
     by_pdu loose (Some o) own skipped = by_outcome o own loose skipped.pdu skipped.last skipped.outcome skipped.body skipped.told
 
     by_latch : (o : Option Refusal) → s.latched ≡ o → SkipBy o lends s made.result t → SkipCame lends s t a
@@ -173,7 +164,7 @@ passed_right : {lends : Bool} {v : View} {start : ℕ} {b t : Body} {taken now :
     (length more ≡ n) × Stretched more × (start + length now ≡ cond (n == 0) (start + length taken) count)
 passed_right {start = start} {taken = taken} {n = n} {count = count} (nothing closed same) long at =
     (sym long, tt, ap (λ now. start + length now) same ∙ sym (ap (λ b. cond b (start + length taken) count) (eq-eqb n 0 long)))
-passed_right {v = v} {start = start} {b = b} {taken = taken} {more = more} {n = n} {count = count} (something runs there) long at = (
+passed_right {lends} {v} {start = start} {b = b} {taken = taken} {more = more} {n = n} {count = count} (something runs there) long at = (
   sym long,
   stretched more (stretch_of runs (sym (named_nesting (lent_bytes lends v) b.opens))),
   sym there ∙ sym at ∙ sym (ap (λ b. cond b (start + length taken) count) (ne_eqb n 0 (λ e. (let some = some_run runs in omega arith)))),
@@ -197,25 +188,16 @@ module _ {lends : Bool} {v : View} {h : List Moment} {s t : State} (k : Kept len
 
   refused_kept : (g : Ongoing lends v h s) → s.latched ≡ None → (f : Refusal) → m.answer ≡ answer.Refused f → t.latched ≡ latch_by f s.latched → t.pdu ≡ s.pdu → t.last ≡ s.last →
       SkipEnd lends v g.story.start g.story.size g.story.taken g.story.es s.body (nesting s.body.opens) 0 t.body (Err f) → Kept lends v (h ++ (m ∷ [])) t
-  refused_kept g loose f a latched pdu end (cut more now grows at left short none_whole) = go left
+  refused_kept g loose f a latched pdu end (cut more now grows latches stands short) =
+      record { latch = latch_some h m caught g.unlatched a latches; tale = inr (story_on g.story m t more now agrees stands.passing end (rw caught stands.after) (stays g m t (calm m is m.answer) pdu (rw caught (stands_still stands)))) }
     where
+      caught : t.latched ≡ Some f
+      caught = latched ∙ latched_by s.latched latches
+
       agrees : Agrees lends v m m.answer more (g.story.start + length g.story.taken) (g.story.start + length now)
       agrees = subst (λ a. Agrees lends v m a more (g.story.start + length g.story.taken) (g.story.start + length now)) (sym a)
-          (subst (λ k. RefusedAgrees k f more (g.story.start + length g.story.taken) (g.story.start + length now)) (sym is) (short 0 (named_nesting (lent_bytes lends v) s.body.opens ∙ omega arith), omega arith, at))
-
-      go : Left lends v g.story.start g.story.size now (g.story.es ++ more) f t.body →
-          Kept lends v (h ++ (m ∷ [])) t
-      go (inl (latches, stands)) =
-          let caught : t.latched ≡ Some f = latched ∙ latched_by s.latched latches in
-          record { latch = latch_some h m caught g.unlatched a latches; tale = inr (story_on g.story m t more now agrees stands.passing end (rw caught at) (stays g m t (calm m is m.answer) pdu (rw caught (stands_still stands)))) }
-      go (inr (full, live)) =
-          let free : latching f.cause ≡ false = ap latching full in
-          let still : t.latched ≡ None = latched ∙ ap (λ b. cond b (Some f) s.latched) free ∙ loose in
-          let count = live.count in
-          record {
-            latch = latch_none h m still live.drawn g.unlatched (ap (first_for_good None) a ∙ ap (λ b. cond b (Some f) None) free);
-            tale = inr (story_on g.story m t more now agrees (passing_of live) end (rw still (omega arith)) (stays g m t (calm m is m.answer) pdu (rw still (goes_on live))));
-          }
+          (subst (λ k. RefusedAgrees k f more (g.story.start + length g.story.taken) (g.story.start + length now)) (sym is)
+          (short 0 (named_nesting (lent_bytes lends v) s.body.opens ∙ omega arith), omega arith, stands.after))
 
   pub skip_kept : Made (SkipCall lends s) SkipAnswer m.answer t → m.count ≡ t.body.reader.count → Tells m t → Kept lends v (h ++ (m ∷ [])) t
   skip_kept made counts tells = go (skip_came made)
@@ -229,20 +211,18 @@ module _ {lends : Bool} {v : View} {h : List Moment} {s t : State} (k : Kept len
 
   -- ---- what decides it
 
-  pub skip_turn_right : Made (SkipCall lends s) SkipAnswer m.answer t → Turn s.pdu s.latched call.Skip m.answer
-  skip_turn_right made = go (skip_came made)
+  pub skip_taken_up : Made (SkipCall lends s) SkipAnswer m.answer t → Taken_up s t (is_open s.pdu) (ForGood m.answer) m.answer
+  skip_taken_up made = go (skip_came made)
     where
-      number : {v : View} {start size : ℕ} {taken : List ℕ} {es : List Event} {b : Body} {down n : ℕ} {f : Refusal} → SkipEnd lends v start size taken es b down n t.body (Err f) → (latching f.cause ≡ true) ⊎ (number_of f.cause ≡ 14)
-      number (cut more now {f} grows at (inl (latches, stands)) short none_whole) = inl latches
-      number (cut more now {f} grows at (inr (full, live)) short none_whole) = inr (ap number_of full)
+      for_good : {start size : ℕ} {taken : List ℕ} {es : List Event} {b : Body} {down n : ℕ} {f : Refusal} → SkipEnd lends v start size taken es b down n t.body (Err f) → latching f.cause ≡ true
+      for_good (cut more now grows latches stands short) = latches
 
-      go : SkipCame lends s t m.answer → Turn s.pdu s.latched call.Skip m.answer
-      go (passes o own loose n skip a latched pdu end) = turn_as s call.Skip m.answer own loose (λ f is. absurd (cc))
+      go : SkipCame lends s t m.answer → Taken_up s t (is_open s.pdu) (ForGood m.answer) m.answer
+      go (passes o own loose n skip a latched pdu end) = tried loose (ap is_open own) (λ f is. absurd (cc))
       go (refuses o own loose f skip a latched pdu end) =
           let g = ongoing k loose own in
-          turn_as s call.Skip m.answer own loose (for_good_or_room a (number (skip_ends g.story.small skip g.live (omega arith))))
-      go (tells_again f a same (again caught)) = turn_as s call.Skip m.answer refl caught a
-      go (tells_again f a same (out_of_turn loose shut is)) = turn_as s call.Skip m.answer shut loose (f, a, ap (λ (f : Refusal). number_of f.cause) is)
+          tried loose (ap is_open own) (known_of (λ f. latching f.cause ≡ true) a (for_good (skip_ends g.story.small skip g.live (omega arith))))
+      go (tells_again f a same why) = untried f a same why
 
 -- ---- what it answers over a whole body
 
@@ -274,9 +254,9 @@ skip_reads {lends} {v} {h} {s} {t} {a} y on w whole made =
     go loose own live (refuses o is free f skip says latched pdu end) = absurd (never (skip_ends y.small skip live (omega arith)))
       where
         never : SkipEnd lends v y.start y.size y.taken y.es s.body (nesting s.body.opens) 0 t.body (Err f) → ⊥
-        never (cut more now grows at left short none_whole) = none_whole w whole
+        never (cut more now grows latches stands short) = stands.none_whole w whole
     go loose own live (tells_again f says same (again caught)) = absurd (cc)
-    go loose own live (tells_again f says same (out_of_turn free shut is)) = absurd (cc)
+    go loose own live (tells_again f says same (out_of_turn free shut is)) = let both = sym shut ∙ ap is_open own in absurd (cc)
 
 -- ---- where the value has ended
 
@@ -298,7 +278,7 @@ skip_at_end {lends} {v} {s = s} {t = t} {a = a} y on made loose closed = let (ow
     by own here (passes o is free n skip says latched pdu end) = let same = none_skipped skip here in let zero : n ≡ 0 = cc in says ∙ ap answer.Skipped zero
     by own here (refuses o is free f skip says latched pdu end) = let same = none_skipped skip here in absurd (cc)
     by own here (tells_again f says same (again caught)) = absurd (cc)
-    by own here (tells_again f says same (out_of_turn free shut is)) = absurd (cc)
+    by own here (tells_again f says same (out_of_turn free shut is)) = let both = sym shut ∙ ap is_open own in absurd (cc)
 
 pub skip_only_there : {lends : Bool} {v : View} {h : List Moment} {s t : State} {a : Answer} → Kept lends v h s → Made (SkipCall lends s) SkipAnswer a t → a ≡ answer.Skipped 0 → s.body.opens ≡ []
 skip_only_there {lends} {v} {s = s} {t = t} {a = a} k made all = go (skip_came made)

@@ -10,7 +10,7 @@ use Rattle.format.specs.declared.refusal.ReadError.TheVariants as error
 use Rattle.values.specs.Values as value
 use Rattle.de.specs.declared.event.Event.{Event}
 use Rattle.de.specs.Shown.{shown}
-use Rattle.de.specs.Steps.{Body, gives, stops, counted, step}
+use Rattle.de.specs.Steps.{Body, gives, stops, counted, text_space, step}
 use Rattle.runs.specs.Law.{limits, hands_out}
 use Rattle.room.specs.Open.{bytes_held}
 use Rattle.values.specs.Limits.{RoomForKeyBytes}
@@ -59,7 +59,7 @@ pub record Waiting (lends : Bool) (input : List ℕ) (b c : Body) : Type 0 where
   pub ready : Ready lends input c
 
 -- a refusal
-pub record Stopped (lends : Bool) (input : List ℕ) (b : Body) (f : Refusal) (c : Body) : Type 0 where
+pub record Stopped (lends : Bool) (input : List ℕ) (space : Option ℕ) (b : Body) (f : Refusal) (c : Body) : Type 0 where
   pub after : b.reader.count ≤ f.place
   pub end : c.end ≡ b.end
   pub opens : c.opens ≡ b.opens
@@ -67,7 +67,7 @@ pub record Stopped (lends : Bool) (input : List ℕ) (b : Body) (f : Refusal) (c
   pub inside : past b.end b.reader.count ≡ false → past b.end c.reader.count ≡ false
   -- the value has not ended
   pub more : b.opens ≡ [] → ⊥
-  pub kind : (latching f.cause ≡ true) ⊎ ((f.cause ≡ cause.Read error.Room) × Waiting lends input b c)
+  pub kind : (latching f.cause ≡ true) ⊎ ((f.cause ≡ cause.Read error.Room) × (text_space lends space ≡ None → ⊥) × Waiting lends input b c)
 
 -- so many bytes stay before the declared end and the reader's stop
 pub record Clear (b : Body) (n : ℕ) : Type 0 where

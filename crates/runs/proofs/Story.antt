@@ -11,7 +11,7 @@ use Rattle.de.specs.declared.entry.Answer.TheVariants as answer
 use Rattle.de.specs.Steps.{Body}
 use Rattle.de.specs.Calls.{State, fresh, telling, up_to, tally}
 use Rattle.de.specs.Made.{Moment}
-use Rattle.runs.specs.Law.{lent_bytes, from, Phase, none_yet, running, over, left, phase, phase_after, open_pdu, for_good, Agrees, RefusedAgrees, Passed, moves, Truthful, Idle, Whole}
+use Rattle.runs.specs.Law.{lent_bytes, from, Phase, none_yet, running, over, left, phase, phase_after, open_pdu, for_good, Agrees, RefusedAgrees, Passed, moves, taken_to, Truthful, Idle, Whole}
 use Rattle.runs.proofs.Taking.{levels}
 use Rattle.runs.proofs.Reached.{Reached}
 use Rattle.runs.proofs.Bodies.{Drawn, Passing, bytes_taken, Live, Stuck}
@@ -82,13 +82,14 @@ pub running_inside : {lends : Bool} {v : View} {start size : ℕ} {taken : List 
 running_inside (goes_on l) = l.inside
 running_inside (stands_still l) = l.inside
 
-pub truth : {lends : Bool} {v : View} {h : List Moment} {s : State} (y : Story lends v h s) (m : Moment) → Tells m s → Truthful v y.start y.size y.es (y.start + length y.taken) m
-truth {lends} {v} {h} {s} y m tells = record {
+pub truth : {lends : Bool} {v : View} {h : List Moment} {s : State} (y : Story lends v h s) (m : Moment) {r : Option Refusal} → s.latched ≡ r → m.count ≡ s.body.reader.count → Tells m s → Truthful v y.start y.size r y.es (y.start + length y.taken) m
+truth {lends} {v} {h} {s} y m {r} latched counts tells = record {
   every = λ w formed (rest, begins). let (x, told, completes) = reached.every w formed rest (begins ∙ ap (λ l. l ++ rest) bytes) in (x, told);
   some = let (w, formed, rest, begins) = reached.some in (w, formed, (rest, begins ∙ ap (λ l. l ++ rest) (sym bytes)));
   counted = tells.events ∙ y.passing.counts;
   few = let paid = reached.paid in omega arith;
   told_bytes = rw told (let after = y.after in let fits = y.passing.fits in omega arith);
+  exactly = told ∙ ap (λ n. min n (y.start + y.size) - y.start) (place s.latched ∙ ap (λ o. taken_to o m.count) latched);
   at_most = rw told (omega arith);
 }
   where
@@ -97,6 +98,10 @@ truth {lends} {v} {h} {s} y m tells = record {
 
     bytes : take (y.start + length y.taken - y.start) (from v y.start) ≡ y.taken
     bytes = bytes_taken y.passing
+
+    place : (o : Option Refusal) → up_to o s ≡ taken_to o m.count
+    place None = sym counts
+    place (Some f) = refl
 
     told : m.bytes ≡ min (up_to s.latched s) (y.start + y.size) - y.start
     told = tells.bytes ∙ ap (λ (e : Extent). min (up_to s.latched s) (e.start + e.length) - e.start) y.last

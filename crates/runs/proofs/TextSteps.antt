@@ -146,7 +146,7 @@ module _ (lends : Bool) (input : List ℕ) (b : Body) (ready : Ready lends input
           ∙ ap (text_says u.kind) (text_lies input b.reader u.len r.long x (text_put u.kind b.end (text_space lends space) u.len b.reader r.granted r.textual) buf lends ready.solid);
     }
 
-    text_stopped : (e : ReadError) (w : View) → TextRefused u.kind lends b.end (text_space lends space) u.len b.reader e w → Stopped lends input b (at e b.reader.count) (moved b w)
+    text_stopped : (e : ReadError) (w : View) → TextRefused u.kind lends b.end (text_space lends space) u.len b.reader e w → Stopped lends input space b (at e b.reader.count) (moved b w)
     text_stopped e w r = record {
       after = omega arith;
       end = refl;
@@ -157,16 +157,16 @@ module _ (lends : Bool) (input : List ℕ) (b : Body) (ready : Ready lends input
       kind = by_cause (latching_or_room e);
     }
       where
-        by_cause : (read_latching e ≡ true) ⊎ (e ≡ error.Room) → (read_latching e ≡ true) ⊎ ((cause.Read e ≡ cause.Read error.Room) × Waiting lends input b (moved b w))
+        by_cause : (read_latching e ≡ true) ⊎ (e ≡ error.Room) → (read_latching e ≡ true) ⊎ ((cause.Read e ≡ cause.Read error.Room) × (text_space lends space ≡ None → ⊥) × Waiting lends input b (moved b w))
         by_cause (inl l) = inl l
-        by_cause (inr is) = inr (ap cause.Read is, subst (λ v. Waiting lends input b (moved b v)) (sym (r.roomless is)) waits_still)
+        by_cause (inr is) = inr (ap cause.Read is, r.limited is, subst (λ v. Waiting lends input b (moved b v)) (sym (r.roomless is)) waits_still)
 
-    pub text_made : Made lends input b (text_step lends space u b)
+    pub text_made : Made lends input space b (text_step lends space u b)
     unfolding text_step
     text_made = by_read (text_outcome u.kind lends b.end (text_space lends space) u.len b.reader) (text_reads lends b.end (text_space lends space) u.len b.reader u.kind)
       where
         by_read : (m : Outcome ReadError Taken) → Comes (TextRead u.kind lends b.end (text_space lends space) u.len b.reader) (TextRefused u.kind lends b.end (text_space lends space) u.len b.reader) m →
-            Made lends input b (text_by (placed b.reader.count m) u b (text_front lends (text_puts u.kind b.end (text_space lends space) u.len b.reader)))
+            Made lends input space b (text_by (placed b.reader.count m) u b (text_front lends (text_puts u.kind b.end (text_space lends space) u.len b.reader)))
         by_read (got t w) r = text_given t w r
         by_read (bad e w) r = text_stopped e w r
 
@@ -191,9 +191,9 @@ module _ (lends : Bool) (input : List ℕ) (b c : Body) (a : Awaited lends input
     ready = w.ready;
   }
 
-  pub made_behind : (m : Out) → Made lends input c m → Made lends input b m
-  made_behind (gives None d x) s = tt
-  made_behind (gives (Some e) d x) s = record {
+  pub made_behind : (space : Option ℕ) (m : Out) → Made lends input space c m → Made lends input space b m
+  made_behind space (gives None d x) s = tt
+  made_behind space (gives (Some e) d x) s = record {
     bytes = a.waiting.bytes ++ s.bytes;
     says = s.says;
     took = took_more a.waiting.took s.took;
@@ -207,7 +207,7 @@ module _ (lends : Bool) (input : List ℕ) (b c : Body) (a : Awaited lends input
     ready = s.ready;
     shows = s.shows;
   }
-  made_behind (stops f d x) s = record {
+  made_behind space (stops f d x) s = record {
     after = let h = s.after in let k = a.waiting.took.count in omega arith;
     end = s.end ∙ a.end;
     opens = s.opens ∙ a.opens;
@@ -217,6 +217,7 @@ module _ (lends : Bool) (input : List ℕ) (b c : Body) (a : Awaited lends input
     kind = by_kind s.kind;
   }
     where
-      by_kind : (latching f.cause ≡ true) ⊎ ((f.cause ≡ cause.Read error.Room) × Waiting lends input c d) → (latching f.cause ≡ true) ⊎ ((f.cause ≡ cause.Read error.Room) × Waiting lends input b d)
+      by_kind : (latching f.cause ≡ true) ⊎ ((f.cause ≡ cause.Read error.Room) × (text_space lends space ≡ None → ⊥) × Waiting lends input c d) →
+          (latching f.cause ≡ true) ⊎ ((f.cause ≡ cause.Read error.Room) × (text_space lends space ≡ None → ⊥) × Waiting lends input b d)
       by_kind (inl l) = inl l
-      by_kind (inr (r, w)) = inr (r, waiting_behind w)
+      by_kind (inr (full, limited, w)) = inr (full, limited, waiting_behind w)

@@ -1,32 +1,40 @@
 -- A call that is decided by what came before it: a refusal for good that comes again, or a call out of turn.
-use Rattle.std.proofs.Common.{◌≡◌, ◌≤◌, true, false, Some, None, Option, ap, sym, subst, subst₂, arith}
+use Rattle.std.proofs.Common.{◌≡◌, ◌<◌, ◌≤◌, Bool, true, false, Some, None, ap, sym, subst, subst₂, arith}
 use Rattle.format.specs.Numbers.{latching, number_of}
 use Rattle.format.specs.declared.refusal.Refusal.{Refusal}
 use Rattle.format.specs.declared.refusal.ReadError.TheVariants as error
 use Rattle.format.specs.declared.refusal.Cause.{Cause}
 use Rattle.format.specs.declared.refusal.Cause.TheVariants as cause
-use Rattle.de.specs.declared.pdu.Extent.{Extent}
-use Rattle.de.specs.declared.entry.Call.{Call}
 use Rattle.de.specs.declared.entry.Answer.{Answer}
 use Rattle.de.specs.declared.entry.Answer.TheVariants as answer
-use Rattle.de.specs.Calls.{State, here, up_to}
-use Rattle.runs.specs.Law.{ForGood, ForGoodOrRoom, Turn}
+use Rattle.de.specs.Calls.{State, here, telling, up_to}
+use Rattle.runs.specs.Law.{Asked}
 
 -- why a call is refused before anything is read
-pub data Untried (s : State) (wrong : Type 0) (f : Refusal) : Type 0 where
-  again : s.latched ≡ Some f → Untried s wrong f
-  out_of_turn : s.latched ≡ None → wrong → f ≡ here cause.OutOfTurn s → Untried s wrong f
+pub data Untried (s : State) (in_turn : Bool) (f : Refusal) : Type 0 where
+  again : s.latched ≡ Some f → Untried s in_turn f
+  out_of_turn : s.latched ≡ None → in_turn ≡ false → f ≡ here cause.OutOfTurn s → Untried s in_turn f
 
 -- such a refusal is for good only where it comes again
-pub untried_free : {s : State} {wrong : Type 0} {f : Refusal} → Untried s wrong f → s.latched ≡ None → latching f.cause ≡ false
+pub untried_free : {s : State} {in_turn : Bool} {f : Refusal} → Untried s in_turn f → s.latched ≡ None → latching f.cause ≡ false
 untried_free (again caught) loose = absurd (cc)
 untried_free (out_of_turn loose w is) e = ap (λ (f : Refusal). latching f.cause) is
 
-pub untried_place : {s : State} {wrong : Type 0} {f : Refusal} → Untried s wrong f → up_to s.latched s ≤ f.place
+pub untried_place : {s : State} {in_turn : Bool} {f : Refusal} → Untried s in_turn f → up_to s.latched s ≤ f.place
 untried_place (again caught) = rw caught (omega arith)
 untried_place (out_of_turn loose w is) = rw (loose, is) (omega arith)
 
--- ---- by the numbers
+-- a call is refused before anything is read, or it is tried, and this is known of its answer
+pub data Taken_up (s t : State) (in_turn : Bool) (known : Type 0) (a : Answer) : Type 0 where
+  untried : (f : Refusal) → a ≡ answer.Refused f → t ≡ telling f s → Untried s in_turn f → Taken_up s t in_turn known a
+  tried : s.latched ≡ None → in_turn ≡ true → known → Taken_up s t in_turn known a
+
+pub asked : {s t : State} {in_turn : Bool} {known : Type 0} {a : Answer} → Taken_up s t in_turn known a → Asked s.latched in_turn known a
+asked {in_turn = in_turn} {known = known} {a = a} (untried f is same (again caught)) = subst (λ r. Asked r in_turn known a) (sym caught) is
+asked {known = known} {a = a} (untried f is same (out_of_turn loose off here)) = subst₂ (λ r b. Asked r b known a) (sym loose) (sym off) (f, is, ap (λ (f : Refusal). number_of f.cause) here)
+asked {known = known} {a = a} (tried loose on k) = subst₂ (λ r b. Asked r b known a) (sym loose) (sym on) k
+
+-- ---- what the number of a refusal says
 
 -- a refusal for good has none of the numbers of a call out of turn and of another token
 pub good_number : (c : Cause) → latching c ≡ true → 3 ≤ number_of c
@@ -48,11 +56,26 @@ good_number cause.NoKeys h = omega arith
 good_number cause.Unfinished h = omega arith
 good_number (cause.Length expected count) h = omega arith
 
-pub for_good_only : {a : Answer} {f : Refusal} → a ≡ answer.Refused f → latching f.cause ≡ true → ForGood a
-for_good_only {f = f} a l g is = let same : f ≡ g = cc in subst (λ (f : Refusal). latching f.cause ≡ true) same l
+-- what is known of one refusal is known of the answer
+pub known_of : {a : Answer} {f : Refusal} (P : Refusal → Type 0) → a ≡ answer.Refused f → P f → (g : Refusal) → a ≡ answer.Refused g → P g
+known_of {f = f} P a p g is = let same : f ≡ g = cc in subst P same p
 
-pub for_good_or_room : {a : Answer} {f : Refusal} → a ≡ answer.Refused f → (latching f.cause ≡ true) ⊎ (number_of f.cause ≡ 14) → ForGoodOrRoom a
-for_good_or_room {f = f} a l g is = let same : f ≡ g = cc in subst (λ (f : Refusal). (latching f.cause ≡ true) ⊎ (number_of f.cause ≡ 14)) same l
+-- what a call leaves that is refused by 1 or 2, or because a call before it was refused for good
+pub record Leaves_all (s t : State) (a : Answer) : Type 0 where
+  pub by_number : (f : Refusal) → a ≡ answer.Refused f → number_of f.cause < 3 → (f.place ≡ s.body.reader.count) × (t.body ≡ s.body)
+  pub for_good : (f : Refusal) → s.latched ≡ Some f → t.body ≡ s.body
 
-pub turn_as : (s : State) (c : Call) (a : Answer) {p : Option Extent} {o : Option Refusal} → s.pdu ≡ p → s.latched ≡ o → Turn p o c a → Turn s.pdu s.latched c a
-turn_as s c a own latched t = subst₂ (λ p o. Turn p o c a) (sym own) (sym latched) t
+pub leaves_all : {s t : State} {in_turn : Bool} {known : Type 0} {a : Answer} → ((f : Refusal) → s.latched ≡ Some f → latching f.cause ≡ true) → (known → (f : Refusal) → a ≡ answer.Refused f → 3 ≤ number_of f.cause) →
+    Taken_up s t in_turn known a → Leaves_all s t a
+leaves_all {s} {t} {in_turn} {known} {a} latches many up = record { by_number = λ f is few. by_number f is few up; for_good = λ f caught. for_good f caught up }
+  where
+    by_number : (f : Refusal) → a ≡ answer.Refused f → number_of f.cause < 3 → Taken_up s t in_turn known a → (f.place ≡ s.body.reader.count) × (t.body ≡ s.body)
+    by_number f is few (untried g this same (again caught)) =
+        let known = known_of (λ f. 3 ≤ number_of f.cause) this (good_number g.cause (latches g caught)) f is in
+        absurd (omega arith)
+    by_number f is few (untried g this same (out_of_turn loose off at)) = (known_of (λ f. f.place ≡ s.body.reader.count) this (ap (λ (f : Refusal). f.place) at) f is, ap (λ t. t.body) same)
+    by_number f is few (tried loose on known) = let far = many known f is in absurd (omega arith)
+
+    for_good : (f : Refusal) → s.latched ≡ Some f → Taken_up s t in_turn known a → t.body ≡ s.body
+    for_good f caught (untried g this same why) = ap (λ t. t.body) same
+    for_good f caught (tried loose on known) = absurd (cc)

@@ -256,31 +256,39 @@ pub record GoesOn (lends : Bool) (v : View) (start size : ℕ) (r : Option Refus
 abbrev pub ForGood : Answer → Type 0
 ForGood a = (f : Refusal) → a ≡ answer.Refused f → latching f.cause ≡ true
 
--- if it is refused, then for good or for want of room in the text buffer
-abbrev pub ForGoodOrRoom : Answer → Type 0
-ForGoodOrRoom a = (f : Refusal) → a ≡ answer.Refused f → (latching f.cause ≡ true) ⊎ (number_of f.cause ≡ 14)
+-- if it is refused, then for good or for want of room in a copying reader's text buffer
+abbrev pub ForGoodOrRoom : Bool → Answer → Type 0
+ForGoodOrRoom lends a = (f : Refusal) → a ≡ answer.Refused f → (latching f.cause ≡ true) ⊎ ((lends ≡ false) × (number_of f.cause ≡ 14))
 
--- a refusal for good comes again
+-- A refusal for good comes again. Else a call out of turn is refused by 1, and one in turn is tried.
+abbrev pub Asked : Option Refusal → Bool → Type 0 → Answer → Type 0
+Asked (Some f) in_turn tried a = a ≡ answer.Refused f
+Asked None false tried a = RefusedBy 1 a
+Asked None true tried a = tried
+
+-- a refusal for good comes again where the token is that of the open PDU
 abbrev pub Again : Option Refusal → Answer → Type 0
-Again None a = Unit {0}
+Again None a = ForGood a
 Again (Some f) a = a ≡ answer.Refused f
 
--- the token is that of the open PDU, or it is refused
-abbrev pub CloseTurn : Option Extent → Option Refusal → Extent → Answer → Type 0
-CloseTurn o r e a = ((o ≡ Some e) × ForGood a × Again r a) ⊎ ((o ≡ Some e → ⊥) × RefusedBy 2 a)
+-- the token is that of the open PDU, or it is refused by 2
+abbrev pub CloseAsked : Option Extent → Option Refusal → Extent → Answer → Type 0
+CloseAsked o r e a = ((o ≡ Some e) × Again r a) ⊎ ((o ≡ Some e → ⊥) × RefusedBy 2 a)
+
+abbrev pub is_open : Option Extent → Bool
+is_open None = false
+is_open (Some e) = true
+
+abbrev pub none_open : Option Extent → Bool
+none_open None = true
+none_open (Some e) = false
 
 -- what is answered where this PDU is open, or none, and where this was refused for good, or nothing
-abbrev pub Turn : Option Extent → Option Refusal → Call → Answer → Type 0
-Turn o r (call.Close e) a = CloseTurn o r e a
-Turn o (Some f) call.Open a = Again (Some f) a
-Turn o (Some f) (call.Next room) a = Again (Some f) a
-Turn o (Some f) call.Skip a = Again (Some f) a
-Turn None None call.Open a = ForGood a
-Turn None None (call.Next room) a = RefusedBy 1 a
-Turn None None call.Skip a = RefusedBy 1 a
-Turn (Some e) None call.Open a = RefusedBy 1 a
-Turn (Some e) None (call.Next room) a = ForGoodOrRoom a
-Turn (Some e) None call.Skip a = ForGoodOrRoom a
+abbrev pub Turn : Bool → Option Extent → Option Refusal → Call → Answer → Type 0
+Turn lends o r call.Open a = Asked r (none_open o) (ForGood a) a
+Turn lends o r (call.Next room) a = Asked r (is_open o) (ForGoodOrRoom lends a) a
+Turn lends o r call.Skip a = Asked r (is_open o) (ForGood a) a
+Turn lends o r (call.Close e) a = CloseAsked o r e a
 
 -- the count of a call that takes nothing
 pub record Still (n : ℕ) (r : Option Refusal) (m : Moment) : Type 0 where
@@ -349,7 +357,7 @@ StoryBy (left e) lends v h m k = PduStory lends v h m k e
 -- a moment, those before it and those after it
 pub record Lawful (lends : Bool) (v : View) (h : List Moment) (m : Moment) (k : List Moment) : Type 0 where
   pub suits : Suits m.call m.answer
-  pub turn : Turn (open_pdu (phase h)) (for_good h) m.call m.answer
+  pub turn : Turn lends (open_pdu (phase h)) (for_good h) m.call m.answer
   pub still : Still (count_after v.count h) (for_good h) m
   pub opens : m.call ≡ call.Open → Opens v h m
   pub story : StoryBy (phase (h ++ (m ∷ []))) lends v h m k
