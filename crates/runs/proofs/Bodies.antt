@@ -267,7 +267,7 @@ module _ {lends : Bool} {v : View} {start size : ℕ} where
           (record { before_end = rw l.end (before close); before_stop = rw l.drawn.took.stop (past_less v.stop _ (start + size) close whole.clear) })) told
 
   -- no step refuses for good
-  pub never_stuck : {taken : List ℕ} {es : List value.Event} {b c : Body} {f : Refusal} {x : List ℕ} (space : Option ℕ) → Live lends v start size taken es b → (b.opens ≡ [] → ⊥) →
+  never_stuck : {taken : List ℕ} {es : List value.Event} {b c : Body} {f : Refusal} {x : List ℕ} (space : Option ℕ) → Live lends v start size taken es b → (b.opens ≡ [] → ⊥) →
       step lends space b ≡ stops f c x →
       latching f.cause ≡ true → (w : Value) → Whole lends v start size w → ⊥
   never_stuck {es = es} {b = b} {c = c} {f = f} {x = x} space l more stop latches w whole = go (outlook space l w whole)

@@ -1,4 +1,4 @@
--- A call of close: what it keeps, and when it accepts.
+-- A call of close: what it keeps, when it accepts, and by which number it is refused.
 use Rattle.std.proofs.Common.{◌≡◌, ℕ, ◌+◌, ◌<◌, ◌≤◌, Bool, true, false, cond, ◌&&◌, ◌==◌, List, [], ◌∷◌, ◌++◌, length, Some, None, Err, Option, Result, ◌⊎◌, inl, inr, refl, sym, ap, ◌∙◌, subst, append-nil, arith}
 use Rattle.std.proofs.lemmas.Bool.{eq-eqb, ne_eqb, eqb-true}
 use Rattle.std.proofs.Math.Seq.{take-append_seam}
@@ -26,7 +26,7 @@ use Rattle.runs.proofs.Reached.{Reached, whole_body}
 use Rattle.runs.proofs.Made.{none_ahead}
 use Rattle.runs.proofs.Bodies.{Passing, passing_still, no_levels, none_more, has_ended, nothing_open, none_awaited, Live, still_to_come}
 use Rattle.runs.proofs.Moments.{drawn_of, latched_first, latches_of, latch_none, latch_some, latch_still, agrees_refused, as_told, latched_by}
-use Rattle.runs.proofs.Turns.{good_number, known_of, Leaves_all}
+use Rattle.runs.proofs.Turns.{good_number, known_of, LeavesAll}
 use Rattle.runs.proofs.Story.{Untouched, InPdu, goes_on, stands_still, Stands, in_pdu, behind_it, off_it, Story, story_still, running_inside, Kept, Tells, same_place, quiet, in_pdu_now, live_now}
 
 -- ---- what a call of close comes to
@@ -52,7 +52,7 @@ pub data CloseCame (e : Extent) (s t : State) (a : Answer) : Type 0 where
   refuses_again : s.pdu ≡ Some e → (f : Refusal) → s.latched ≡ Some f → a ≡ answer.Refused f → t ≡ telling f (shut s) → CloseCame e s t a
   another : (s.pdu ≡ Some e → ⊥) → (f : Refusal) → a ≡ answer.Refused f → t ≡ telling f s → f ≡ here cause.Token s → CloseCame e s t a
 
-pub close_came : {e : Extent} {s t : State} {a : Answer} → Made (Meets (close_call (token 0 e) s)) CloseAnswer a t → CloseCame e s t a
+close_came : {e : Extent} {s t : State} {a : Answer} → Made (Meets (close_call (token 0 e) s)) CloseAnswer a t → CloseCame e s t a
 close_came {e} {s} {t} {a} made = by_pdu s.pdu refl made.meets
   where
     answers : {r : Result Closed Refused} → made.result ≡ r → CloseAnswer r t a
@@ -147,7 +147,7 @@ module _ {lends : Bool} {v : View} {h : List Moment} {s : State} (k : Kept lends
           quiet m f k same a (λ e. ap (λ (f : Refusal). latching f.cause) is_token) (λ o. ap (λ c. phase_after (running o) c (answer.Refused f)) is ∙ ap (λ (f : Refusal). cond (number_of f.cause == 2) (running o) (over o)) is_token)
           (λ c i. subst (λ k. RefusedAgrees k f [] c c) (sym is) (refl, refl)) tells
 
-  -- ---- what decides it
+  -- ---- which token it was given
 
   pub close_asked : {t : State} → Made (Meets (close_call (token 0 e) s)) CloseAnswer m.answer t → CloseAsked s.pdu s.latched e m.answer
   close_asked {t} made = go (close_came made)
@@ -159,7 +159,7 @@ module _ {lends : Bool} {v : View} {h : List Moment} {s : State} (k : Kept lends
       go (another why f a same is) = inr (why, (f, a, ap (λ (f : Refusal). number_of f.cause) is))
 
   -- the reader is left as it is
-  pub close_leaves : {t : State} → Made (Meets (close_call (token 0 e) s)) CloseAnswer m.answer t → (t.body ≡ s.body) × Leaves_all s t m.answer
+  pub close_leaves : {t : State} → Made (Meets (close_call (token 0 e) s)) CloseAnswer m.answer t → (t.body ≡ s.body) × LeavesAll s t m.answer
   close_leaves {t} made = (body (close_came made), record { by_number = λ f is few. by_number f is few (close_came made); for_good = λ f caught. body (close_came made) })
     where
       body : CloseCame e s t m.answer → t.body ≡ s.body

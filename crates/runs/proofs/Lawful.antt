@@ -18,7 +18,7 @@ use Rattle.de.specs.Made.{Moment, AsTold, OpenAnswer, NextAnswer, SkipAnswer, Cl
 use Rattle.runs.specs.Law.{running, phase, open_pdu, for_good, count_after, GoesOn, Reads, Whole, PassesEvents, NothingLeft, ForGood, ForGoodOrRoom, Turn, Still, Suits, PduStory, StoryBy, Law}
 use Rattle.runs.proofs.Bodies.{drawn_none, has_ended, nothing_open}
 use Rattle.runs.proofs.Moments.{last_same, uncaught, latched_first, latches_of}
-use Rattle.runs.proofs.Turns.{asked, good_number, Leaves_all, leaves_all}
+use Rattle.runs.proofs.Turns.{asked, good_number, LeavesAll, leaves_all}
 use Rattle.runs.proofs.Story.{Stands, in_pdu, behind_it, off_it, Untouched, untouched_first, Story, truth, stays_inside, Kept, pdu_told, Tells}
 use Rattle.runs.proofs.Opening.{open_kept, opens_right, open_taken_up}
 use Rattle.runs.proofs.Closing.{close_kept, closes_right, close_asked, close_leaves}
@@ -123,10 +123,10 @@ stills {lends} {v} {h} {s} {t} sound k m l counts = record {
         by (inl latches) = good_number f.cause latches
         by (inr (copies, full)) = omega arith
 
-    all : Leaves_all s t m.answer
+    all : LeavesAll s t m.answer
     all = go m.call refl l.made
       where
-        go : (c : Call) → m.call ≡ c → MadeBy lends s c m.answer m.text t → Leaves_all s t m.answer
+        go : (c : Call) → m.call ≡ c → MadeBy lends s c m.answer m.text t → LeavesAll s t m.answer
         go call.Open is made = leaves_all latches good (open_taken_up sound k m t made.0)
         go (call.Next room) is made = leaves_all latches good_or_room (next_taken_up k m is made.0)
         go call.Skip is made = leaves_all latches good (skip_taken_up k m is made.0)

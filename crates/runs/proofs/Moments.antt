@@ -1,4 +1,4 @@
--- What a list of moments says of what is open, and of what was refused for good.
+-- What one more moment makes of what is open and of the first refusal for good.
 use Rattle.std.proofs.Common.{◌≡◌, ℕ, Bool, true, false, cond, List, [], ◌∷◌, ◌++◌, Some, None, Option, refl, sym, ap, ◌∙◌, subst}
 use Rattle.read.specs.Reader.{View}
 use Rattle.format.specs.Numbers.{latching}

@@ -1,4 +1,4 @@
--- A call of next: what it keeps, and what it answers over a whole body.
+-- A call of next: what it keeps, when it is tried at all, and what it answers over a whole body and where a value has ended.
 use Rattle.std.proofs.Common.{◌≡◌, ℕ, ◌+◌, Bool, true, false, cond, List, [], ◌∷◌, ◌++◌, length, replicate, Some, None, Option, Result, ◌⊎◌, inl, inr, refl, sym, ap, ◌∙◌, subst, append_assoc, length-append, arith}
 use Rattle.std.proofs.lemmas.Bool.{lt-ltb, ltb-true}
 use Rattle.std.proofs.lemmas.List.{append_cancel_left}
@@ -26,7 +26,7 @@ use Rattle.runs.proofs.Stepping.{step_gives, step_stops}
 use Rattle.runs.proofs.Ending.{step_none, step_done}
 use Rattle.runs.proofs.Bodies.{Live, passing_of, Advanced, advance, stopped_inside, wait, stuck, count_left, same_body, Outlook, none_awaited, at_the_end, more_comes, outlook}
 use Rattle.runs.proofs.Moments.{latch_none, latch_some, agrees_refused, as_told, latched_by}
-use Rattle.runs.proofs.Turns.{Untried, again, out_of_turn, untried_free, Taken_up, untried, tried, known_of}
+use Rattle.runs.proofs.Turns.{Untried, again, out_of_turn, untried_free, TakenUp, untried, tried, known_of}
 use Rattle.runs.proofs.Story.{goes_on, stands_still, Story, story_on, story_still, Kept, Tells, quiet, Ongoing, ongoing, stays, in_pdu_now, live_now, unstuck}
 
 -- ---- what a call of next comes to
@@ -39,7 +39,7 @@ pub data NextCame (lends : Bool) (room : ℕ) (s t : State) (a : Answer) : Type 
       Off f (latch f (in_body s c)) t → NextCame lends room s t a
   tells_again : (f : Refusal) → a ≡ answer.Refused f → t ≡ telling f s → Untried s (is_open s.pdu) f → NextCame lends room s t a
 
-pub next_came : {lends : Bool} {room : ℕ} {s t : State} {a : Answer} → Made (Meets (next_call lends room s)) NextAnswer a t → NextCame lends room s t a
+next_came : {lends : Bool} {room : ℕ} {s t : State} {a : Answer} → Made (Meets (next_call lends room s)) NextAnswer a t → NextCame lends room s t a
 next_came {lends} {room} {s} {t} {a} made = by_latch s.latched refl made.meets
   where
     answers : {r : Result (Option Event) Refused} → made.result ≡ r → NextAnswer r t a
@@ -132,9 +132,9 @@ module _ {lends : Bool} {v : View} {h : List Moment} {s : State} (k : Kept lends
       go (refuses o own loose f c x stop a off) = refused_kept (ongoing k loose own) loose t f c x stop a off
       go (tells_again f a same free) = quiet m f k same a (untried_free free) (calm (answer.Refused f)) (λ c i. subst (λ k. RefusedAgrees k f [] c c) (sym is) (refl, refl)) tells
 
-  -- ---- what decides it
+  -- ---- when it is tried
 
-  pub next_taken_up : {t : State} → Made (Meets (next_call lends room s)) NextAnswer m.answer t → Taken_up s t (is_open s.pdu) (ForGoodOrRoom lends m.answer) m.answer
+  pub next_taken_up : {t : State} → Made (Meets (next_call lends room s)) NextAnswer m.answer t → TakenUp s t (is_open s.pdu) (ForGoodOrRoom lends m.answer) m.answer
   next_taken_up {t} made = go (next_came made)
     where
       -- a reader that lends needs no room
@@ -147,7 +147,7 @@ module _ {lends : Bool} {v : View} {h : List Moment} {s : State} (k : Kept lends
       kind f (inl latches) = inl latches
       kind f (inr (full, limited, waiting)) = inr (copies lends limited, ap number_of full)
 
-      go : NextCame lends room s t m.answer → Taken_up s t (is_open s.pdu) (ForGoodOrRoom lends m.answer) m.answer
+      go : NextCame lends room s t m.answer → TakenUp s t (is_open s.pdu) (ForGoodOrRoom lends m.answer) m.answer
       go (one o own loose e c x gave put a same) = tried loose (ap is_open own) (λ f is. absurd (cc))
       go (none o own loose c x gave a same) = tried loose (ap is_open own) (λ f is. absurd (cc))
       go (refuses o own loose f c x stop a off) =

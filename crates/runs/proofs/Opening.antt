@@ -1,4 +1,4 @@
--- A call of open: what it keeps, and when it accepts.
+-- A call of open: what it keeps, when it accepts, and when it is tried at all.
 use Rattle.std.proofs.Common.{◌≡◌, ℕ, ◌+◌, Bool, true, false, List, [], ◌∷◌, ◌++◌, length, Some, None, Option, Result, ◌⊎◌, inl, inr, refl, sym, ap, ◌∙◌, subst, arith}
 use Rattle.read.specs.Reader.{View, Sound}
 use Rattle.format.specs.Numbers.{latching}
@@ -26,7 +26,7 @@ use Rattle.runs.proofs.Reading.{Comes, Halted}
 use Rattle.runs.proofs.Heading.{Headed, from_here, header_reads, header_there}
 use Rattle.runs.proofs.Bodies.{Drawn, drawn_more, from_count, Live, passing_of, passing_still}
 use Rattle.runs.proofs.Moments.{phase_last, drawn_of, latched_first, latch_none, latch_some, agrees_refused, as_told, latched_by}
-use Rattle.runs.proofs.Turns.{Untried, again, out_of_turn, untried_free, Taken_up, untried, tried, known_of}
+use Rattle.runs.proofs.Turns.{Untried, again, out_of_turn, untried_free, TakenUp, untried, tried, known_of}
 use Rattle.runs.proofs.Story.{goes_on, Stands, in_pdu, behind_it, off_it, Story, story_still, Untouched, untouched_on, Kept, pdu_told, Tells, quiet}
 
 solid_first : {lends : Bool} {v : View} → Sound lends v → Solid lends (lent_bytes lends v) v
@@ -63,7 +63,7 @@ pub data OpenCame (lends : Bool) (s t : State) (a : Answer) : Type 0 where
   refuses : s.latched ≡ None → s.pdu ≡ None → (f : Refusal) (w : View) → header_read lends s.body.reader ≡ bad f w → a ≡ answer.Refused f → Off f (latch f (unopened s w)) t → OpenCame lends s t a
   tells_again : (f : Refusal) → a ≡ answer.Refused f → t ≡ telling f s → Untried s (none_open s.pdu) f → OpenCame lends s t a
 
-pub open_came : {lends : Bool} {s t : State} {a : Answer} → Made (Meets (open_call lends s)) OpenAnswer a t → OpenCame lends s t a
+open_came : {lends : Bool} {s t : State} {a : Answer} → Made (Meets (open_call lends s)) OpenAnswer a t → OpenCame lends s t a
 open_came {lends} {s} {t} {a} made = by_latch s.latched refl made.meets
   where
     answers : {r : Result PduInfo Refused} → made.result ≡ r → OpenAnswer r t a
@@ -196,12 +196,12 @@ module _ {lends : Bool} {v : View} {h : List Moment} {s : State} (sound : Sound 
       accepted caps start size a (refuses loose shut f w read b off) = absurd (cc)
       accepted caps start size a (tells_again f b same free) = absurd (cc)
 
-  -- ---- what decides it
+  -- ---- when it is tried
 
-  pub open_taken_up : Made (Meets (open_call lends s)) OpenAnswer m.answer t → Taken_up s t (none_open s.pdu) (ForGood m.answer) m.answer
+  pub open_taken_up : Made (Meets (open_call lends s)) OpenAnswer m.answer t → TakenUp s t (none_open s.pdu) (ForGood m.answer) m.answer
   open_taken_up made = go (open_came made)
     where
-      go : OpenCame lends s t m.answer → Taken_up s t (none_open s.pdu) (ForGood m.answer) m.answer
+      go : OpenCame lends s t m.answer → TakenUp s t (none_open s.pdu) (ForGood m.answer) m.answer
       go (begins loose shut e w read a same) = tried loose (ap none_open shut) (λ f is. absurd (cc))
       go (refuses loose shut f w read a off) = let halted = header_came loose read in tried loose (ap none_open shut) (known_of (λ f. latching f.cause ≡ true) a halted.latches)
       go (tells_again f a same why) = untried f a same why

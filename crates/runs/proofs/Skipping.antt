@@ -1,4 +1,4 @@
--- A call of skip: what it keeps, and what it answers over a whole body.
+-- A call of skip: what it keeps, when it is tried at all, and what it answers over a whole body and where a value has ended.
 use Rattle.std.proofs.Common.{◌≡◌, ℕ, suc, ◌+◌, ◌<◌, ◌≤◌, Bool, true, false, cond, ◌==◌, List, [], ◌∷◌, ◌++◌, length, drop, Some, None, Ok, Err, Option, Result, ◌⊎◌, inl, inr, refl, sym, ap, ◌∙◌, subst, append_assoc, append-nil, length-append, arith}
 use Rattle.std.proofs.lemmas.Bool.{eq-eqb, ne_eqb}
 use Rattle.std.proofs.Math.Seq.{drop-append_seam}
@@ -32,7 +32,7 @@ use Rattle.runs.proofs.Ending.{step_none, step_done}
 use Rattle.runs.proofs.Drawing.{step_draws}
 use Rattle.runs.proofs.Bodies.{Live, Stuck, passing_of, Advanced, advance, counts_one, before_end, after_end, stuck, count_left, none_awaited, still_to_come}
 use Rattle.runs.proofs.Moments.{latch_none, latch_some, as_told, latched_by}
-use Rattle.runs.proofs.Turns.{Untried, again, out_of_turn, untried_free, untried_place, Taken_up, untried, tried, known_of}
+use Rattle.runs.proofs.Turns.{Untried, again, out_of_turn, untried_free, untried_place, TakenUp, untried, tried, known_of}
 use Rattle.runs.proofs.Story.{goes_on, stands_still, Story, story_on, Kept, Tells, quiet, Ongoing, ongoing, stays, in_pdu_now, live_now, unstuck}
 
 -- as deep with the names of the columns as without
@@ -129,7 +129,7 @@ pub data SkipCame (lends : Bool) (s t : State) (a : Answer) : Type 0 where
       t.last ≡ s.last → SkipCame lends s t a
   tells_again : (f : Refusal) → a ≡ answer.Refused f → t ≡ telling f s → Untried s (is_open s.pdu) f → SkipCame lends s t a
 
-pub skip_came : {lends : Bool} {s t : State} {a : Answer} → Made (SkipCall lends s) SkipAnswer a t → SkipCame lends s t a
+skip_came : {lends : Bool} {s t : State} {a : Answer} → Made (SkipCall lends s) SkipAnswer a t → SkipCame lends s t a
 skip_came {lends} {s} {t} {a} made = by_latch s.latched refl made.meets
   where
     answers : {r : Result ℕ Refused} → made.result ≡ r → SkipAnswer r t a
@@ -209,15 +209,15 @@ module _ {lends : Bool} {v : View} {h : List Moment} {s t : State} (k : Kept len
           let place = untried_place why in
           quiet m f k same a (untried_free why) (calm m is (answer.Refused f)) (λ c i. subst (λ k. RefusedAgrees k f [] c c) (sym is) (refl, omega arith, omega arith)) tells
 
-  -- ---- what decides it
+  -- ---- when it is tried
 
-  pub skip_taken_up : Made (SkipCall lends s) SkipAnswer m.answer t → Taken_up s t (is_open s.pdu) (ForGood m.answer) m.answer
+  pub skip_taken_up : Made (SkipCall lends s) SkipAnswer m.answer t → TakenUp s t (is_open s.pdu) (ForGood m.answer) m.answer
   skip_taken_up made = go (skip_came made)
     where
       for_good : {start size : ℕ} {taken : List ℕ} {es : List Event} {b : Body} {down n : ℕ} {f : Refusal} → SkipEnd lends v start size taken es b down n t.body (Err f) → latching f.cause ≡ true
       for_good (cut more now grows latches stands short) = latches
 
-      go : SkipCame lends s t m.answer → Taken_up s t (is_open s.pdu) (ForGood m.answer) m.answer
+      go : SkipCame lends s t m.answer → TakenUp s t (is_open s.pdu) (ForGood m.answer) m.answer
       go (passes o own loose n skip a latched pdu end) = tried loose (ap is_open own) (λ f is. absurd (cc))
       go (refuses o own loose f skip a latched pdu end) =
           let g = ongoing k loose own in

@@ -6,7 +6,6 @@ use Rattle.values.specs.Limits.{Limits}
 use Rattle.room.specs.Open.{items, filled, nesting}
 use Rattle.runs.specs.Law.{deeper, stretch}
 use Rattle.runs.proofs.Taking.{Level, null_is, Takes, plain_comes, array_comes, object_comes, template_comes}
-use Rattle.runs.proofs.Coming.{Completes, all_come}
 
 -- a value takes a place at the same depth
 filled_nesting : (s : List Level) → nesting (filled s) ≡ nesting s
@@ -15,7 +14,7 @@ filled_nesting (items zero ∷ s) = refl
 filled_nesting (o ∷ s) = refl
 
 -- the levels are nested as deep as the events say
-pub nests : {L : Limits} {s t : List Level} {c : List ℕ} {e : Event} → Takes L s c e t → nesting t ≡ deeper (nesting s) e
+nests : {L : Limits} {s t : List Level} {c : List ℕ} {e : Event} → Takes L s c e t → nesting t ≡ deeper (nesting s) e
 nests {s = s} (plain_comes w null_is h) = filled_nesting s
 nests {s = s} (plain_comes w p h) = filled_nesting s
 nests {s = s} (array_comes w u n h i) = ap suc (filled_nesting s)
@@ -66,7 +65,3 @@ stretch_from {down = down} d at (onward {e = e} h deep r) x =
 -- what has passed where skip ends is the whole stretch
 pub stretch_of : {L : Limits} {down : ℕ} {s t : List Level} {es : List Event} → Runs L down s es t → down ≡ nesting s → (x : List Event) → stretch 0 (es ++ x) ≡ length es
 stretch_of r at x = stretch_from 0 (omega arith) r x
-
--- no value ends within a stretch
-pub more_inside : {L : Limits} {s : List Level} {b : List ℕ} {x : List Event} → Completes L s b x → 0 < nesting s → x ≡ [] → ⊥
-more_inside c deep e = omega (arith, ap nesting (all_come c e).0)

@@ -31,17 +31,18 @@ lent_bytes false v = []
 
 -- ---- what is open after some moments, and what was refused for good
 
--- No PDU was opened yet. Of the PDU that was opened last: it is open; it has been closed; it has been closed and open was called again.
+-- No PDU was opened yet. Else of the PDU opened last: it is open, it has been closed, or it has been closed and open was called again.
 pub data Phase : Type 0 where
   none_yet : Phase
   running over left : Extent → Phase
 
+-- an accepted open opens its PDU
 abbrev pub open_phase : Phase → Answer → Phase
 open_phase p (answer.Opened h) = running (record { start = h.start; length = h.length })
 open_phase (over e) a = left e
 open_phase p a = p
 
--- a close ends the open PDU unless its token is refused
+-- a close ends the open PDU, accepted or refused, but for the refusal of its token
 abbrev pub close_phase : Phase → Answer → Phase
 close_phase (running e) (answer.Refused f) = cond (number_of f.cause == 2) (running e) (over e)
 close_phase (running e) a = over e
@@ -57,7 +58,7 @@ abbrev pub phase_from : Phase → List Moment → Phase
 phase_from p [] = p
 phase_from p (m ∷ h) = phase_from (phase_after p m.call m.answer) h
 
--- the phase after these moments, the first that there were
+-- the phase after these moments
 abbrev pub phase : List Moment → Phase
 phase h = phase_from none_yet h
 
@@ -67,7 +68,7 @@ open_pdu (running e) = Some e
 open_pdu (over e) = None
 open_pdu (left e) = None
 
--- the first refusal for good, where this was the first before the answer
+-- the first refusal for good with this answer, where this was the first before it
 abbrev pub first_for_good : Option Refusal → Answer → Option Refusal
 first_for_good None (answer.Refused f) = cond (latching f.cause) (Some f) None
 first_for_good o a = o
@@ -146,11 +147,11 @@ pub record Truthful (v : View) (start size : ℕ) (r : Option Refusal) (es : Lis
   -- the events begin those of every value whose encoding begins with the body bytes taken up to the last of them, and there is one
   pub every : (w : Value) → Formed w → Begins (take (c - start) (from v start)) (encoding w) → Begins es (events w)
   pub some : (w : Value) × Formed w × Begins (take (c - start) (from v start)) (encoding w)
-  -- the count is the count
   pub counted : m.events ≡ length es
+  -- at most four for each body byte
   pub few : length es ≤ 4 * (c - start)
+  -- the bytes told are the body bytes taken, those up to the last event among them
   pub told_bytes : c - start ≤ m.bytes
-  -- the bytes told are the body bytes taken
   pub exactly : m.bytes ≡ min (taken_to r m.count) (start + size) - start
   pub at_most : m.bytes ≤ size
 
@@ -168,7 +169,7 @@ pub record Declared (v : View) (start size : ℕ) (w : Value) : Type 0 where
   pub long : length (encoding w) ≡ size
   pub there : take size (from v start) ≡ encoding w
 
--- a close that is given the numbers of the open PDU
+-- a close that is given the numbers of the open PDU accepts exactly where the declared body is one value and all its events have passed
 pub record Closes (v : View) (start size : ℕ) (r : Option Refusal) (es : List Event) (c : ℕ) (a : Answer) : Type 0 where
   pub accepts : (w : Value) → Declared v start size w → es ≡ events w → a ≡ answer.Closed (record { events = length es; length = size })
   pub accepted : (n l : ℕ) → a ≡ answer.Closed (record { events = n; length = l }) → (n ≡ length es) × (l ≡ size) × (w : Value) × Declared v start size w × (es ≡ events w)
@@ -229,14 +230,14 @@ pub record Whole (lends : Bool) (v : View) (start size : ℕ) (w : Value) : Type
 
 -- ---- where a value has ended
 
--- next or skip, which pass events
+-- the calls that pass events
 abbrev pub PassesEvents : Call → Type 0
 PassesEvents call.Open = ⊥
 PassesEvents (call.Next room) = Unit {0}
 PassesEvents call.Skip = Unit {0}
 PassesEvents (call.Close e) = ⊥
 
--- the answer to them that nothing is left to pass
+-- their answers where no event is left to pass
 abbrev pub NothingLeft : Call → Answer → Type 0
 NothingLeft call.Open a = ⊥
 NothingLeft (call.Next room) a = a ≡ answer.Done
@@ -247,10 +248,11 @@ NothingLeft (call.Close e) a = ⊥
 pub record GoesOn (lends : Bool) (v : View) (start size : ℕ) (r : Option Refusal) (es : List Event) (c : ℕ) (m : Moment) : Type 0 where
   pub closes : m.call ≡ call.Close (record { start = start; length = size }) → Closes v start size r es c m.answer
   pub reads : (w : Value) → Whole lends v start size w → Reads lends w es m.call m.answer
+  -- these answers come exactly where a value has ended
   pub at_end : r ≡ None → (w : Value) → Ended v start es c w → PassesEvents m.call → NothingLeft m.call m.answer
   pub only_there : NothingLeft m.call m.answer → (w : Value) × Ended v start es c w
 
--- ---- a call that is decided by what came before it
+-- ---- when a call is tried at all
 
 -- if it is refused, then for good
 abbrev pub ForGood : Answer → Type 0
@@ -266,12 +268,12 @@ Asked (Some f) in_turn tried a = a ≡ answer.Refused f
 Asked None false tried a = RefusedBy 1 a
 Asked None true tried a = tried
 
--- a refusal for good comes again where the token is that of the open PDU
+-- a refusal for good comes again to close too
 abbrev pub Again : Option Refusal → Answer → Type 0
 Again None a = ForGood a
 Again (Some f) a = a ≡ answer.Refused f
 
--- the token is that of the open PDU, or it is refused by 2
+-- The token is that of the open PDU, and then it is not refused; or it is refused by 2, also after a refusal for good.
 abbrev pub CloseAsked : Option Extent → Option Refusal → Extent → Answer → Type 0
 CloseAsked o r e a = ((o ≡ Some e) × Again r a) ⊎ ((o ≡ Some e → ⊥) × RefusedBy 2 a)
 
@@ -283,14 +285,14 @@ abbrev pub none_open : Option Extent → Bool
 none_open None = true
 none_open (Some e) = false
 
--- what is answered where this PDU is open, or none, and where this was refused for good, or nothing
+-- what is answered where this PDU is open or none, and this was refused for good or nothing
 abbrev pub Turn : Bool → Option Extent → Option Refusal → Call → Answer → Type 0
 Turn lends o r call.Open a = Asked r (none_open o) (ForGood a) a
 Turn lends o r (call.Next room) a = Asked r (is_open o) (ForGoodOrRoom lends a) a
 Turn lends o r call.Skip a = Asked r (is_open o) (ForGood a) a
 Turn lends o r (call.Close e) a = CloseAsked o r e a
 
--- the count of a call that takes nothing
+-- a call that takes nothing leaves the reader's count as it was before
 pub record Still (n : ℕ) (r : Option Refusal) (m : Moment) : Type 0 where
   pub out_of_turn : (f : Refusal) → m.answer ≡ answer.Refused f → number_of f.cause < 3 → (f.place ≡ n) × (m.count ≡ n)
   pub again : (f : Refusal) → r ≡ Some f → m.count ≡ n
