@@ -19,7 +19,7 @@ use Rattle.de.specs.declared.entry.Answer.TheVariants as answer
 use Rattle.de.specs.Steps.{Body}
 use Rattle.de.specs.Calls.{State, Meets, gave, telling, latch, here, shut, refusing, finished, finished_by, close_by, close_own, close_call, owns, up_to}
 use Rattle.de.specs.Made.{Moment, Made, CloseAnswer, token}
-use Rattle.runs.specs.Law.{lent_bytes, running, over, phase, phase_after, close_phase, first_for_good, RefusedAgrees, Agrees, Declared, Closes, Ended, Again, CloseAsked}
+use Rattle.runs.specs.Law.{lent_bytes, running, over, phase, phase_after, close_phase, first_for_good, RefusedAgrees, Agrees, Declared, Closes, Ended, ForGood, Again, CloseAsked}
 use Rattle.runs.proofs.Taking.{levels}
 use Rattle.runs.proofs.Coming.{all_come}
 use Rattle.runs.proofs.Reached.{Reached, whole_body}
@@ -154,7 +154,7 @@ module _ {lends : Bool} {v : View} {h : List Moment} {s : State} (k : Kept lends
     where
       go : CloseCame e s t m.answer → CloseAsked s.pdu s.latched e m.answer
       go (closes own loose done there a same) = inl (own, subst (λ o. Again o m.answer) (sym loose) (λ f is. absurd (cc)))
-      go (refuses own loose why f place latches which a same) = inl (own, subst (λ o. Again o m.answer) (sym loose) (known_of (λ f. latching f.cause ≡ true) a latches))
+      go (refuses own loose why f place latches which a same) = inl (own, subst (λ o. Again o m.answer) (sym loose) (known_of ForGood a latches))
       go (refuses_again own f caught a same) = inl (own, subst (λ o. Again o m.answer) (sym caught) a)
       go (another why f a same is) = inr (why, (f, a, ap (λ (f : Refusal). number_of f.cause) is))
 

@@ -1,8 +1,8 @@
 -- The law of any list of calls.
-use Rattle.std.proofs.Common.{◌≡◌, ℕ, ◌+◌, ◌≤◌, Bool, true, false, arith, List, [], ◌∷◌, ◌++◌, Some, None, Ok, Err, Option, Result, ◌⊎◌, inl, inr, refl, sym, ap, subst₂, ◌∙◌, subst, length, append_assoc, append-nil}
+use Rattle.std.proofs.Common.{◌≡◌, ℕ, ◌+◌, ◌≤◌, Bool, arith, List, [], ◌∷◌, ◌++◌, Some, None, Ok, Err, Option, Result, ◌⊎◌, inl, inr, refl, sym, ap, subst₂, ◌∙◌, subst, length, append_assoc, append-nil}
 use Rattle.read.specs.Reader.{View, Sound}
 use Rattle.format.specs.declared.refusal.Refusal.{Refusal}
-use Rattle.format.specs.Numbers.{latching, number_of}
+use Rattle.format.specs.Numbers.{number_of}
 use Rattle.values.specs.Values.{Value}
 use Rattle.de.specs.declared.event.Event.{Event}
 use Rattle.de.specs.declared.event.Refused.{Refused}
@@ -15,7 +15,7 @@ use Rattle.de.specs.declared.entry.Answer.TheVariants as answer
 use Rattle.de.specs.Steps.{Body}
 use Rattle.de.specs.Calls.{State, fresh}
 use Rattle.de.specs.Made.{Moment, AsTold, OpenAnswer, NextAnswer, SkipAnswer, CloseAnswer, MadeBy, Logged}
-use Rattle.runs.specs.Law.{running, phase, open_pdu, for_good, count_after, GoesOn, Reads, Whole, PassesEvents, NothingLeft, ForGood, ForGoodOrRoom, Turn, Still, Suits, PduStory, StoryBy, Law}
+use Rattle.runs.specs.Law.{running, phase, open_pdu, for_good, count_after, GoesOn, Reads, Whole, PassesEvents, NothingLeft, IfRefused, ForGood, ForGoodOrRoom, Turn, Still, Suits, PduStory, StoryBy, Law}
 use Rattle.runs.proofs.Bodies.{drawn_none, has_ended, nothing_open}
 use Rattle.runs.proofs.Moments.{last_same, uncaught, latched_first, latches_of}
 use Rattle.runs.proofs.Turns.{asked, good_number, LeavesAll, leaves_all}
@@ -94,11 +94,11 @@ suits {lends} {s} {t} m l = go m.call l.made
 turns : {lends : Bool} {v : View} {h : List Moment} {s t : State} → Sound lends v → Kept lends v h s → (m : Moment) → Logged lends s m t → Turn lends (open_pdu (phase h)) (for_good h) m.call m.answer
 turns {lends} {v} {h} {s} {t} sound k m l = subst₂ (λ p o. Turn lends p o m.call m.answer) (pdu_told k) (latched_first k.latch) (go m.call refl l.made)
   where
-    go : (c : Call) → m.call ≡ c → MadeBy lends s c m.answer m.text t → Turn lends s.pdu s.latched m.call m.answer
-    go call.Open is made = subst (λ c. Turn lends s.pdu s.latched c m.answer) (sym is) (asked (open_taken_up sound k m t made.0))
-    go (call.Next room) is made = subst (λ c. Turn lends s.pdu s.latched c m.answer) (sym is) (asked (next_taken_up k m is made.0))
-    go call.Skip is made = subst (λ c. Turn lends s.pdu s.latched c m.answer) (sym is) (asked (skip_taken_up k m is made.0))
-    go (call.Close e) is made = subst (λ c. Turn lends s.pdu s.latched c m.answer) (sym is) (close_asked k m is made.0)
+    go : (c : Call) → m.call ≡ c → MadeBy lends s c m.answer m.text t → Turn lends s.pdu s.latched c m.answer
+    go call.Open is made = asked (open_taken_up sound k m t made.0)
+    go (call.Next room) is made = asked (next_taken_up k m is made.0)
+    go call.Skip is made = asked (skip_taken_up k m is made.0)
+    go (call.Close e) is made = close_asked k m is made.0
 
 stills : {lends : Bool} {v : View} {h : List Moment} {s t : State} → Sound lends v → Kept lends v h s → (m : Moment) → Logged lends s m t → s.body.reader.count ≡ count_after v.count h → Still (count_after v.count h) (for_good h) m
 stills {lends} {v} {h} {s} {t} sound k m l counts = record {
@@ -110,16 +110,16 @@ stills {lends} {v} {h} {s} {t} sound k m l counts = record {
     stays : t.body ≡ s.body → m.count ≡ count_after v.count h
     stays same = l.counts ∙ ap (λ (b : Body). b.reader.count) same ∙ counts
 
-    latches : (f : Refusal) → s.latched ≡ Some f → latching f.cause ≡ true
+    latches : (f : Refusal) → s.latched ≡ Some f → ForGood f
     latches f caught = latches_of k.latch caught
 
-    good : ForGood m.answer → (f : Refusal) → m.answer ≡ answer.Refused f → 3 ≤ number_of f.cause
+    good : IfRefused ForGood m.answer → IfRefused (λ f. 3 ≤ number_of f.cause) m.answer
     good known f is = good_number f.cause (known f is)
 
-    good_or_room : ForGoodOrRoom lends m.answer → (f : Refusal) → m.answer ≡ answer.Refused f → 3 ≤ number_of f.cause
+    good_or_room : IfRefused (ForGoodOrRoom lends) m.answer → IfRefused (λ f. 3 ≤ number_of f.cause) m.answer
     good_or_room known f is = by (known f is)
       where
-        by : (latching f.cause ≡ true) ⊎ ((lends ≡ false) × (number_of f.cause ≡ 14)) → 3 ≤ number_of f.cause
+        by : ForGoodOrRoom lends f → 3 ≤ number_of f.cause
         by (inl latches) = good_number f.cause latches
         by (inr (copies, full)) = omega arith
 

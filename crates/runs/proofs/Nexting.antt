@@ -20,7 +20,7 @@ use Rattle.de.specs.Shown.{shown}
 use Rattle.de.specs.Steps.{Body, Out, gives, stops, step, puts, text_space}
 use Rattle.de.specs.Calls.{State, Meets, Off, telling, latch, here, in_body, next_by, next_turn, next_call, next_puts, turn_puts, unless_latched}
 use Rattle.de.specs.Made.{Moment, Made, NextAnswer}
-use Rattle.runs.specs.Law.{lent_bytes, running, phase, phase_after, first_for_good, RefusedAgrees, Agrees, Whole, hands_out, Cramped, Reads, ForGoodOrRoom, is_open}
+use Rattle.runs.specs.Law.{lent_bytes, running, phase, phase_after, first_for_good, RefusedAgrees, Agrees, Whole, hands_out, Cramped, Reads, IfRefused, ForGoodOrRoom, is_open}
 use Rattle.runs.proofs.Stepped.{Stepped, Stopped, Waiting, Tight, can_give, must_wait}
 use Rattle.runs.proofs.Stepping.{step_gives, step_stops}
 use Rattle.runs.proofs.Ending.{step_none, step_done}
@@ -134,7 +134,7 @@ module _ {lends : Bool} {v : View} {h : List Moment} {s : State} (k : Kept lends
 
   -- ---- when it is tried
 
-  pub next_taken_up : {t : State} → Made (Meets (next_call lends room s)) NextAnswer m.answer t → TakenUp s t (is_open s.pdu) (ForGoodOrRoom lends m.answer) m.answer
+  pub next_taken_up : {t : State} → Made (Meets (next_call lends room s)) NextAnswer m.answer t → TakenUp s t (is_open s.pdu) (IfRefused (ForGoodOrRoom lends) m.answer) m.answer
   next_taken_up {t} made = go (next_came made)
     where
       -- a reader that lends needs no room
@@ -142,18 +142,17 @@ module _ {lends : Bool} {v : View} {h : List Moment} {s : State} (k : Kept lends
       copies true limited = absurd (limited refl)
       copies false limited = refl
 
-      kind : (f : Refusal) {A : Type 0} → (latching f.cause ≡ true) ⊎ ((f.cause ≡ cause.Read error.Room) × (text_space lends (Some room) ≡ None → ⊥) × A) →
-          (latching f.cause ≡ true) ⊎ ((lends ≡ false) × (number_of f.cause ≡ 14))
+      kind : (f : Refusal) {A : Type 0} → (latching f.cause ≡ true) ⊎ ((f.cause ≡ cause.Read error.Room) × (text_space lends (Some room) ≡ None → ⊥) × A) → ForGoodOrRoom lends f
       kind f (inl latches) = inl latches
       kind f (inr (full, limited, waiting)) = inr (copies lends limited, ap number_of full)
 
-      go : NextCame lends room s t m.answer → TakenUp s t (is_open s.pdu) (ForGoodOrRoom lends m.answer) m.answer
+      go : NextCame lends room s t m.answer → TakenUp s t (is_open s.pdu) (IfRefused (ForGoodOrRoom lends) m.answer) m.answer
       go (one o own loose e c x gave put a same) = tried loose (ap is_open own) (λ f is. absurd (cc))
       go (none o own loose c x gave a same) = tried loose (ap is_open own) (λ f is. absurd (cc))
       go (refuses o own loose f c x stop a off) =
           let g = ongoing k loose own in
           tried loose (ap is_open own)
-          (known_of (λ f. (latching f.cause ≡ true) ⊎ ((lends ≡ false) × (number_of f.cause ≡ 14))) a (kind f (step_stops (Some room) s.body f c x g.live.ready stop).kind))
+          (known_of (ForGoodOrRoom lends) a (kind f (step_stops (Some room) s.body f c x g.live.ready stop).kind))
       go (tells_again f a same why) = untried f a same why
 
 -- ---- what it answers over a whole body

@@ -1,7 +1,6 @@
 -- A call of open: what it keeps, when it accepts, and when it is tried at all.
 use Rattle.std.proofs.Common.{◌≡◌, ℕ, ◌+◌, Bool, true, false, List, [], ◌∷◌, ◌++◌, length, Some, None, Option, Result, ◌⊎◌, inl, inr, refl, sym, ap, ◌∙◌, subst, arith}
 use Rattle.read.specs.Reader.{View, Sound}
-use Rattle.format.specs.Numbers.{latching}
 use Rattle.format.specs.declared.refusal.Refusal.{Refusal}
 use Rattle.format.specs.declared.refusal.Cause.TheVariants as cause
 use Rattle.values.specs.Limits.{RoomForKeyBytes}
@@ -17,7 +16,7 @@ use Rattle.de.specs.declared.entry.Answer.{Answer}
 use Rattle.de.specs.declared.entry.Answer.TheVariants as answer
 use Rattle.de.specs.Calls.{State, Meets, Off, telling, latch, here, opened, unopened, open_by, open_turn, open_call, unless_latched}
 use Rattle.de.specs.Made.{Moment, Made, OpenAnswer}
-use Rattle.runs.specs.Law.{lent_bytes, from, limits, Phase, none_yet, running, over, left, open_phase, phase, phase_after, open_pdu, first_for_good, for_good, RefusedAgrees, opens, count_after, HeaderAt, Opens, ForGood, none_open}
+use Rattle.runs.specs.Law.{lent_bytes, from, limits, Phase, none_yet, running, over, left, open_phase, phase, phase_after, open_pdu, first_for_good, for_good, RefusedAgrees, opens, count_after, HeaderAt, Opens, IfRefused, ForGood, none_open}
 use Rattle.runs.proofs.Reached.{reached_first}
 use Rattle.runs.proofs.Taking.{none_taken}
 use Rattle.runs.proofs.Stepped.{Solid}
@@ -198,10 +197,10 @@ module _ {lends : Bool} {v : View} {h : List Moment} {s : State} (sound : Sound 
 
   -- ---- when it is tried
 
-  pub open_taken_up : Made (Meets (open_call lends s)) OpenAnswer m.answer t → TakenUp s t (none_open s.pdu) (ForGood m.answer) m.answer
+  pub open_taken_up : Made (Meets (open_call lends s)) OpenAnswer m.answer t → TakenUp s t (none_open s.pdu) (IfRefused ForGood m.answer) m.answer
   open_taken_up made = go (open_came made)
     where
-      go : OpenCame lends s t m.answer → TakenUp s t (none_open s.pdu) (ForGood m.answer) m.answer
+      go : OpenCame lends s t m.answer → TakenUp s t (none_open s.pdu) (IfRefused ForGood m.answer) m.answer
       go (begins loose shut e w read a same) = tried loose (ap none_open shut) (λ f is. absurd (cc))
-      go (refuses loose shut f w read a off) = let halted = header_came loose read in tried loose (ap none_open shut) (known_of (λ f. latching f.cause ≡ true) a halted.latches)
+      go (refuses loose shut f w read a off) = let halted = header_came loose read in tried loose (ap none_open shut) (known_of ForGood a halted.latches)
       go (tells_again f a same why) = untried f a same why

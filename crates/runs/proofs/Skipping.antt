@@ -21,7 +21,7 @@ use Rattle.de.specs.Steps.{Body, gives, stops, step, counted, Apart, text_space}
 use Rattle.de.specs.Calls as calls
 use Rattle.de.specs.Calls.{State, telling, latch_by, here, drawn, drawn_by, drawn_view, Skips, Skip, Skipped, SkipTold, SkipTurn, SkipBy, SkipCall, up_to}
 use Rattle.de.specs.Made.{Moment, Made, SkipAnswer}
-use Rattle.runs.specs.Law.{lent_bytes, limits, running, phase, phase_after, first_for_good, deeper, stretch, Stretched, RefusedAgrees, Agrees, Whole, Reads, ForGood, is_open}
+use Rattle.runs.specs.Law.{lent_bytes, limits, running, phase, phase_after, first_for_good, deeper, stretch, Stretched, RefusedAgrees, Agrees, Whole, Reads, IfRefused, ForGood, is_open}
 use Rattle.runs.proofs.Taking.{Level, levels, Front}
 use Rattle.runs.proofs.Coming as coming
 use Rattle.runs.proofs.Coming.{Completes}
@@ -211,17 +211,17 @@ module _ {lends : Bool} {v : View} {h : List Moment} {s t : State} (k : Kept len
 
   -- ---- when it is tried
 
-  pub skip_taken_up : Made (SkipCall lends s) SkipAnswer m.answer t → TakenUp s t (is_open s.pdu) (ForGood m.answer) m.answer
+  pub skip_taken_up : Made (SkipCall lends s) SkipAnswer m.answer t → TakenUp s t (is_open s.pdu) (IfRefused ForGood m.answer) m.answer
   skip_taken_up made = go (skip_came made)
     where
       for_good : {start size : ℕ} {taken : List ℕ} {es : List Event} {b : Body} {down n : ℕ} {f : Refusal} → SkipEnd lends v start size taken es b down n t.body (Err f) → latching f.cause ≡ true
       for_good (cut more now grows latches stands short) = latches
 
-      go : SkipCame lends s t m.answer → TakenUp s t (is_open s.pdu) (ForGood m.answer) m.answer
+      go : SkipCame lends s t m.answer → TakenUp s t (is_open s.pdu) (IfRefused ForGood m.answer) m.answer
       go (passes o own loose n skip a latched pdu end) = tried loose (ap is_open own) (λ f is. absurd (cc))
       go (refuses o own loose f skip a latched pdu end) =
           let g = ongoing k loose own in
-          tried loose (ap is_open own) (known_of (λ f. latching f.cause ≡ true) a (for_good (skip_ends g.story.small skip g.live (omega arith))))
+          tried loose (ap is_open own) (known_of ForGood a (for_good (skip_ends g.story.small skip g.live (omega arith))))
       go (tells_again f a same why) = untried f a same why
 
 -- ---- what it answers over a whole body

@@ -8,7 +8,7 @@ use Rattle.format.specs.declared.refusal.Cause.TheVariants as cause
 use Rattle.de.specs.declared.entry.Answer.{Answer}
 use Rattle.de.specs.declared.entry.Answer.TheVariants as answer
 use Rattle.de.specs.Calls.{State, here, telling, up_to}
-use Rattle.runs.specs.Law.{Asked}
+use Rattle.runs.specs.Law.{IfRefused, ForGood, Asked}
 
 -- why a call is refused before anything is read
 pub data Untried (s : State) (in_turn : Bool) (f : Refusal) : Type 0 where
@@ -57,7 +57,7 @@ good_number cause.Unfinished h = omega arith
 good_number (cause.Length expected count) h = omega arith
 
 -- what is known of one refusal is known of the answer
-pub known_of : {a : Answer} {f : Refusal} (P : Refusal → Type 0) → a ≡ answer.Refused f → P f → (g : Refusal) → a ≡ answer.Refused g → P g
+pub known_of : {a : Answer} {f : Refusal} (P : Refusal → Type 0) → a ≡ answer.Refused f → P f → IfRefused P a
 known_of {f = f} P a p g is = let same : f ≡ g = cc in subst P same p
 
 -- what a call leaves that is refused by 1 or 2, or because a call before it was refused for good
@@ -65,7 +65,7 @@ pub record LeavesAll (s t : State) (a : Answer) : Type 0 where
   pub by_number : (f : Refusal) → a ≡ answer.Refused f → number_of f.cause < 3 → (f.place ≡ s.body.reader.count) × (t.body ≡ s.body)
   pub for_good : (f : Refusal) → s.latched ≡ Some f → t.body ≡ s.body
 
-pub leaves_all : {s t : State} {in_turn : Bool} {known : Type 0} {a : Answer} → ((f : Refusal) → s.latched ≡ Some f → latching f.cause ≡ true) → (known → (f : Refusal) → a ≡ answer.Refused f → 3 ≤ number_of f.cause) →
+pub leaves_all : {s t : State} {in_turn : Bool} {known : Type 0} {a : Answer} → ((f : Refusal) → s.latched ≡ Some f → ForGood f) → (known → IfRefused (λ f. 3 ≤ number_of f.cause) a) →
     TakenUp s t in_turn known a → LeavesAll s t a
 leaves_all {s} {t} {in_turn} {known} {a} latches many up = record { by_number = λ f is few. by_number f is few up; for_good = λ f caught. for_good f caught up }
   where

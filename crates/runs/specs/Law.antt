@@ -254,13 +254,16 @@ pub record GoesOn (lends : Bool) (v : View) (start size : ℕ) (r : Option Refus
 
 -- ---- when a call is tried at all
 
--- if it is refused, then for good
-abbrev pub ForGood : Answer → Type 0
-ForGood a = (f : Refusal) → a ≡ answer.Refused f → latching f.cause ≡ true
+-- what holds of the refusal, if it is one
+abbrev pub IfRefused : (Refusal → Type 0) → Answer → Type 0
+IfRefused P a = (f : Refusal) → a ≡ answer.Refused f → P f
 
--- if it is refused, then for good or for want of room in a copying reader's text buffer
-abbrev pub ForGoodOrRoom : Bool → Answer → Type 0
-ForGoodOrRoom lends a = (f : Refusal) → a ≡ answer.Refused f → (latching f.cause ≡ true) ⊎ ((lends ≡ false) × (number_of f.cause ≡ 14))
+abbrev pub ForGood : Refusal → Type 0
+ForGood f = latching f.cause ≡ true
+
+-- for good, or for want of room in a copying reader's text buffer
+abbrev pub ForGoodOrRoom : Bool → Refusal → Type 0
+ForGoodOrRoom lends f = ForGood f ⊎ ((lends ≡ false) × (number_of f.cause ≡ 14))
 
 -- A refusal for good comes again. Else a call out of turn is refused by 1, and one in turn is tried.
 abbrev pub Asked : Option Refusal → Bool → Type 0 → Answer → Type 0
@@ -270,7 +273,7 @@ Asked None true tried a = tried
 
 -- a refusal for good comes again to close too
 abbrev pub Again : Option Refusal → Answer → Type 0
-Again None a = ForGood a
+Again None a = IfRefused ForGood a
 Again (Some f) a = a ≡ answer.Refused f
 
 -- The token is that of the open PDU, and then it is not refused; or it is refused by 2, also after a refusal for good.
@@ -287,9 +290,9 @@ none_open (Some e) = false
 
 -- what is answered where this PDU is open or none, and this was refused for good or nothing
 abbrev pub Turn : Bool → Option Extent → Option Refusal → Call → Answer → Type 0
-Turn lends o r call.Open a = Asked r (none_open o) (ForGood a) a
-Turn lends o r (call.Next room) a = Asked r (is_open o) (ForGoodOrRoom lends a) a
-Turn lends o r call.Skip a = Asked r (is_open o) (ForGood a) a
+Turn lends o r call.Open a = Asked r (none_open o) (IfRefused ForGood a) a
+Turn lends o r (call.Next room) a = Asked r (is_open o) (IfRefused (ForGoodOrRoom lends) a) a
+Turn lends o r call.Skip a = Asked r (is_open o) (IfRefused ForGood a) a
 Turn lends o r (call.Close e) a = CloseAsked o r e a
 
 -- a call that takes nothing leaves the reader's count as it was before
