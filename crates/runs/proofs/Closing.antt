@@ -19,7 +19,7 @@ use Rattle.de.specs.declared.entry.Answer.TheVariants as answer
 use Rattle.de.specs.Steps.{Body}
 use Rattle.de.specs.Calls.{State, Meets, gave, telling, latch, here, shut, refusing, finished, finished_by, close_by, close_own, close_call, owns, up_to}
 use Rattle.de.specs.Made.{Moment, Made, CloseAnswer, token}
-use Rattle.runs.specs.Law.{lent_bytes, running, over, phase, phase_after, close_phase, first_for_good, RefusedAgrees, Agrees, Declared, Closes, Ended, ForGood, Again, CloseAsked}
+use Rattle.runs.specs.Law.{lent_bytes, running, over, phase, phase_after, close_phase, first_for_good, RefusedAgrees, Agrees, Declared, Closes, Unclosed, ForGood, Again, CloseAsked}
 use Rattle.runs.proofs.Taking.{levels}
 use Rattle.runs.proofs.Coming.{all_come}
 use Rattle.runs.proofs.Reached.{Reached, whole_body}
@@ -261,13 +261,11 @@ closes_right {lends} {v} {h} {s} {t} {a} y on latched made =
 
     -- which question it was
     refused : s.pdu ≡ Some whole → Live lends v y.start y.size y.taken y.es s.body → (f : Refusal) → a ≡ answer.Refused f → s.latched ≡ None → CloseCame whole s t a →
-        ((number_of f.cause ≡ 15) × ((w : Value) → Ended v y.start y.es (y.start + length y.taken) w → ⊥)) ⊎ ((number_of f.cause ≡ 16) × (w : Value) × Ended v y.start y.es (y.start + length y.taken) w)
+        Unclosed v y.start y.es (y.start + length y.taken) f
     refused own live f is free (closes mine loose done there b same) = absurd (cc)
-    refused own live f is free (refuses mine loose why g place latches which b same) =
-        known_of (λ f. ((number_of f.cause ≡ 15) × ((w : Value) → Ended v y.start y.es (y.start + length y.taken) w → ⊥)) ⊎ ((number_of f.cause ≡ 16) × (w : Value) × Ended v y.start y.es (y.start + length y.taken) w)) b (by which) f is
+    refused own live f is free (refuses mine loose why g place latches which b same) = known_of (Unclosed v y.start y.es (y.start + length y.taken)) b (by which) f is
       where
-        by : {n : ℕ} → ((n ≡ 15) × (finished s.body ≡ false)) ⊎ ((n ≡ 16) × (finished s.body ≡ true)) →
-            ((n ≡ 15) × ((w : Value) → Ended v y.start y.es (y.start + length y.taken) w → ⊥)) ⊎ ((n ≡ 16) × (w : Value) × Ended v y.start y.es (y.start + length y.taken) w)
+        by : ((number_of g.cause ≡ 15) × (finished s.body ≡ false)) ⊎ ((number_of g.cause ≡ 16) × (finished s.body ≡ true)) → Unclosed v y.start y.es (y.start + length y.taken) g
         by (inl (number, going)) = inl (number, λ w ended. still_going (nothing_open y.passing w ended))
           where
             still_going : s.body.opens ≡ [] → ⊥

@@ -1,12 +1,11 @@
 -- A call of next: what it keeps, when it is tried at all, and what it answers over a whole body and where a value has ended.
-use Rattle.std.proofs.Common.{◌≡◌, ℕ, ◌+◌, Bool, true, false, cond, List, [], ◌∷◌, ◌++◌, length, replicate, Some, None, Option, Result, ◌⊎◌, inl, inr, refl, sym, ap, ◌∙◌, subst, append_assoc, length-append, arith}
+use Rattle.std.proofs.Common.{◌≡◌, ℕ, ◌+◌, Bool, true, false, cond, List, [], ◌∷◌, ◌++◌, length, replicate, Some, None, Option, Result, inl, inr, refl, sym, ap, ◌∙◌, subst, append_assoc, length-append, arith}
 use Rattle.std.proofs.lemmas.Bool.{lt-ltb, ltb-true}
 use Rattle.std.proofs.lemmas.List.{append_cancel_left}
 use Rattle.source.specs.Feed.{fronted}
 use Rattle.read.specs.Reader.{View}
 use Rattle.format.specs.Numbers.{latching, number_of}
 use Rattle.format.specs.declared.refusal.Refusal.{Refusal}
-use Rattle.format.specs.declared.refusal.ReadError.TheVariants as error
 use Rattle.format.specs.declared.refusal.Cause.TheVariants as cause
 use Rattle.values.specs.Values.{Value, events}
 use Rattle.values.specs.Values as value
@@ -21,7 +20,7 @@ use Rattle.de.specs.Steps.{Body, Out, gives, stops, step, puts, text_space}
 use Rattle.de.specs.Calls.{State, Meets, Off, telling, latch, here, in_body, next_by, next_turn, next_call, next_puts, turn_puts, unless_latched}
 use Rattle.de.specs.Made.{Moment, Made, NextAnswer}
 use Rattle.runs.specs.Law.{lent_bytes, running, phase, phase_after, first_for_good, RefusedAgrees, Agrees, Whole, hands_out, Cramped, Reads, IfRefused, ForGoodOrRoom, is_open}
-use Rattle.runs.proofs.Stepped.{Stepped, Stopped, Waiting, Tight, can_give, must_wait}
+use Rattle.runs.proofs.Stepped.{ForGoodOrWaits, Stepped, Stopped, Tight, can_give, must_wait}
 use Rattle.runs.proofs.Stepping.{step_gives, step_stops}
 use Rattle.runs.proofs.Ending.{step_none, step_done}
 use Rattle.runs.proofs.Bodies.{Live, passing_of, Advanced, advance, stopped_inside, wait, stuck, count_left, same_body, Outlook, none_awaited, at_the_end, more_comes, outlook}
@@ -98,7 +97,7 @@ module _ {lends : Bool} {v : View} {h : List Moment} {s : State} (k : Kept lends
       counts : t.body.reader.count ≡ c.reader.count
       counts = count_left f.cause c.reader t.body.reader off.body.reader
 
-      go : (latching f.cause ≡ true) ⊎ ((f.cause ≡ cause.Read error.Room) × (text_space lends (Some room) ≡ None → ⊥) × Waiting lends (lent_bytes lends v) s.body c) → Kept lends v (h ++ (m ∷ [])) t
+      go : ForGoodOrWaits lends (lent_bytes lends v) (Some room) f s.body c → Kept lends v (h ++ (m ∷ [])) t
       go (inl latches) =
           let caught : t.latched ≡ Some f = off.latched ∙ latched_by s.latched latches in
           let stands = stuck (Some room) g.live st stop latches t.body off.body.opens off.body.events (rw counts (stopped_inside g.live st)) in
@@ -142,7 +141,7 @@ module _ {lends : Bool} {v : View} {h : List Moment} {s : State} (k : Kept lends
       copies true limited = absurd (limited refl)
       copies false limited = refl
 
-      kind : (f : Refusal) {A : Type 0} → (latching f.cause ≡ true) ⊎ ((f.cause ≡ cause.Read error.Room) × (text_space lends (Some room) ≡ None → ⊥) × A) → ForGoodOrRoom lends f
+      kind : (f : Refusal) {c : Body} → ForGoodOrWaits lends (lent_bytes lends v) (Some room) f s.body c → ForGoodOrRoom lends f
       kind f (inl latches) = inl latches
       kind f (inr (full, limited, waiting)) = inr (copies lends limited, ap number_of full)
 

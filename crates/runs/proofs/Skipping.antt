@@ -1,11 +1,10 @@
 -- A call of skip: what it keeps, when it is tried at all, and what it answers over a whole body and where a value has ended.
-use Rattle.std.proofs.Common.{◌≡◌, ℕ, suc, ◌+◌, ◌<◌, ◌≤◌, Bool, true, false, cond, ◌==◌, List, [], ◌∷◌, ◌++◌, length, drop, Some, None, Ok, Err, Option, Result, ◌⊎◌, inl, inr, refl, sym, ap, ◌∙◌, subst, append_assoc, append-nil, length-append, arith}
+use Rattle.std.proofs.Common.{◌≡◌, ℕ, suc, ◌+◌, ◌<◌, ◌≤◌, Bool, true, false, cond, ◌==◌, List, [], ◌∷◌, ◌++◌, length, drop, Some, None, Ok, Err, Option, Result, inl, inr, refl, sym, ap, ◌∙◌, subst, append_assoc, append-nil, length-append, arith}
 use Rattle.std.proofs.lemmas.Bool.{eq-eqb, ne_eqb}
 use Rattle.std.proofs.Math.Seq.{drop-append_seam}
 use Rattle.read.specs.Reader.{View}
 use Rattle.format.specs.Numbers.{latching}
 use Rattle.format.specs.declared.refusal.Refusal.{Refusal}
-use Rattle.format.specs.declared.refusal.ReadError.TheVariants as error
 use Rattle.format.specs.declared.refusal.Cause.TheVariants as cause
 use Rattle.values.specs.Values.{Value, events, Event}
 use Rattle.values.specs.Limits.{Limits, none}
@@ -26,7 +25,7 @@ use Rattle.runs.proofs.Taking.{Level, levels, Front}
 use Rattle.runs.proofs.Coming as coming
 use Rattle.runs.proofs.Coming.{Completes}
 use Rattle.runs.proofs.Stretching.{Runs, last, onward, stretch_on, stretch_of}
-use Rattle.runs.proofs.Stepped.{Stepped, Stopped, Waiting}
+use Rattle.runs.proofs.Stepped.{ForGoodOrWaits, Stepped, Stopped}
 use Rattle.runs.proofs.Stepping.{step_gives, step_stops}
 use Rattle.runs.proofs.Ending.{step_none, step_done}
 use Rattle.runs.proofs.Drawing.{step_draws}
@@ -79,7 +78,7 @@ module _ {lends : Bool} {v : View} {start size : ℕ} (small : start + size ≤ 
       inside : t.reader.count ≤ start + size
       inside = rw (count_left f.cause (drawn lends f c).reader t.reader apart.reader) (after_end (drawn lends f c).reader.count l (rw (← st.end) (step_draws lends None b f c x stop (rw st.end (st.inside (before_end l))))))
 
-      roomy : (latching f.cause ≡ true) ⊎ ((f.cause ≡ cause.Read error.Room) × (text_space lends None ≡ None → ⊥) × Waiting lends (lent_bytes lends v) b c) → latching f.cause ≡ true
+      roomy : ForGoodOrWaits lends (lent_bytes lends v) None f b c → latching f.cause ≡ true
       roomy (inl latches) = latches
       roomy (inr (full, limited, waiting)) = absurd (limited (no_space lends))
 

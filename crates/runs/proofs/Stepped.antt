@@ -58,6 +58,10 @@ pub record Waiting (lends : Bool) (input : List ℕ) (b c : Body) : Type 0 where
   pub front : (front : List ℕ) → Front b.unread front → Front c.unread (front ++ bytes)
   pub ready : Ready lends input c
 
+-- the refusal is for good; or it is for want of room in the buffer of a copying reader, and a text is awaited
+abbrev pub ForGoodOrWaits : Bool → List ℕ → Option ℕ → Refusal → Body → Body → Type 0
+ForGoodOrWaits lends input space f b c = (latching f.cause ≡ true) ⊎ ((f.cause ≡ cause.Read error.Room) × (text_space lends space ≡ None → ⊥) × Waiting lends input b c)
+
 -- a refusal
 pub record Stopped (lends : Bool) (input : List ℕ) (space : Option ℕ) (b : Body) (f : Refusal) (c : Body) : Type 0 where
   pub after : b.reader.count ≤ f.place
@@ -67,7 +71,7 @@ pub record Stopped (lends : Bool) (input : List ℕ) (space : Option ℕ) (b : B
   pub inside : past b.end b.reader.count ≡ false → past b.end c.reader.count ≡ false
   -- the value has not ended
   pub more : b.opens ≡ [] → ⊥
-  pub kind : (latching f.cause ≡ true) ⊎ ((f.cause ≡ cause.Read error.Room) × (text_space lends space ≡ None → ⊥) × Waiting lends input b c)
+  pub kind : ForGoodOrWaits lends input space f b c
 
 -- so many bytes stay before the declared end and the reader's stop
 pub record Clear (b : Body) (n : ℕ) : Type 0 where

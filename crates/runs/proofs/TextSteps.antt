@@ -6,7 +6,7 @@ use Rattle.source.specs.Feed.{fronted}
 use Rattle.source.specs.Sound.{octets_take}
 use Rattle.read.specs.declared.Taken.{Taken}
 use Rattle.read.specs.Reader.{View, past, lies}
-use Rattle.format.specs.Numbers.{latching, read_latching}
+use Rattle.format.specs.Numbers.{read_latching}
 use Rattle.format.specs.declared.refusal.ReadError.{ReadError}
 use Rattle.format.specs.declared.refusal.ReadError.TheVariants as error
 use Rattle.format.specs.declared.refusal.Cause.TheVariants as cause
@@ -25,7 +25,7 @@ use Rattle.de.specs.Steps.{Body, Out, gives, stops, moved, behind, counted, text
 use Rattle.runs.specs.Law.{limits}
 use Rattle.runs.proofs.Taking.{Level, levels, Fit, names_long, Wants, Plain, bytes_are, text_is, Takes, plain_comes, Tagged, Front, head_taken, KeyWanted, TextWanted, Waits}
 use Rattle.runs.proofs.Taking as taking
-use Rattle.runs.proofs.Stepped.{Solid, Ready, Stepped, Waiting, Stopped}
+use Rattle.runs.proofs.Stepped.{ForGoodOrWaits, Solid, Ready, Stepped, Waiting, Stopped}
 use Rattle.runs.proofs.Digits.{octets_are_bytes}
 use Rattle.runs.proofs.Keys.{lent_bytes}
 use Rattle.runs.proofs.Levels.{filled_holds, keyed_holds, levels_filled, levels_keyed, wanted_open, key_wanted_open, fit_filled, fit_keyed}
@@ -157,7 +157,7 @@ module _ (lends : Bool) (input : List ℕ) (b : Body) (ready : Ready lends input
       kind = by_cause (latching_or_room e);
     }
       where
-        by_cause : (read_latching e ≡ true) ⊎ (e ≡ error.Room) → (read_latching e ≡ true) ⊎ ((cause.Read e ≡ cause.Read error.Room) × (text_space lends space ≡ None → ⊥) × Waiting lends input b (moved b w))
+        by_cause : (read_latching e ≡ true) ⊎ (e ≡ error.Room) → ForGoodOrWaits lends input space (at e b.reader.count) b (moved b w)
         by_cause (inl l) = inl l
         by_cause (inr is) = inr (ap cause.Read is, r.limited is, subst (λ v. Waiting lends input b (moved b v)) (sym (r.roomless is)) waits_still)
 
@@ -217,7 +217,6 @@ module _ (lends : Bool) (input : List ℕ) (b c : Body) (a : Awaited lends input
     kind = by_kind s.kind;
   }
     where
-      by_kind : (latching f.cause ≡ true) ⊎ ((f.cause ≡ cause.Read error.Room) × (text_space lends space ≡ None → ⊥) × Waiting lends input c d) →
-          (latching f.cause ≡ true) ⊎ ((f.cause ≡ cause.Read error.Room) × (text_space lends space ≡ None → ⊥) × Waiting lends input b d)
+      by_kind : ForGoodOrWaits lends input space f c d → ForGoodOrWaits lends input space f b d
       by_kind (inl l) = inl l
       by_kind (inr (full, limited, w)) = inr (full, limited, waiting_behind w)

@@ -86,6 +86,26 @@ abbrev pub count_after : ℕ → List Moment → ℕ
 count_after n [] = n
 count_after n (m ∷ h) = count_after m.count h
 
+-- ---- answers that are refusals
+
+abbrev pub Refuses : Answer → Type 0
+Refuses a = (f : Refusal) × (a ≡ answer.Refused f)
+
+-- the answer is a refusal with this number
+abbrev pub RefusedBy : ℕ → Answer → Type 0
+RefusedBy n a = (f : Refusal) × (a ≡ answer.Refused f) × (number_of f.cause ≡ n)
+
+-- what holds of the refusal, if it is one
+abbrev pub IfRefused : (Refusal → Type 0) → Answer → Type 0
+IfRefused P a = (f : Refusal) → a ≡ answer.Refused f → P f
+
+abbrev pub ForGood : Refusal → Type 0
+ForGood f = latching f.cause ≡ true
+
+-- for good, or for want of room in a copying reader's text buffer
+abbrev pub ForGoodOrRoom : Bool → Refusal → Type 0
+ForGoodOrRoom lends f = ForGood f ⊎ ((lends ≡ false) × (number_of f.cause ≡ 14))
+
 -- ---- what has passed
 
 -- how deep an event leads, where so much has begun
@@ -169,13 +189,15 @@ pub record Declared (v : View) (start size : ℕ) (w : Value) : Type 0 where
   pub long : length (encoding w) ≡ size
   pub there : take size (from v start) ≡ encoding w
 
+-- why a close is refused: events are still to come, or the value has ended elsewhere than was declared
+abbrev pub Unclosed : View → ℕ → List Event → ℕ → Refusal → Type 0
+Unclosed v start es c f = ((number_of f.cause ≡ 15) × ((w : Value) → Ended v start es c w → ⊥)) ⊎ ((number_of f.cause ≡ 16) × (w : Value) × Ended v start es c w)
+
 -- a close that is given the numbers of the open PDU accepts exactly where the declared body is one value and all its events have passed
 pub record Closes (v : View) (start size : ℕ) (r : Option Refusal) (es : List Event) (c : ℕ) (a : Answer) : Type 0 where
   pub accepts : (w : Value) → Declared v start size w → es ≡ events w → a ≡ answer.Closed (record { events = length es; length = size })
   pub accepted : (n l : ℕ) → a ≡ answer.Closed (record { events = n; length = l }) → (n ≡ length es) × (l ≡ size) × (w : Value) × Declared v start size w × (es ≡ events w)
-  -- events are still to come, or the value has ended elsewhere than was declared
-  pub refused : r ≡ None → (f : Refusal) → a ≡ answer.Refused f →
-      ((number_of f.cause ≡ 15) × ((w : Value) → Ended v start es c w → ⊥)) ⊎ ((number_of f.cause ≡ 16) × (w : Value) × Ended v start es c w)
+  pub refused : r ≡ None → IfRefused (Unclosed v start es c) a
 
 -- the bytes that an event hands out
 abbrev pub hands_out : Event → Option (List ℕ)
@@ -202,17 +224,13 @@ pub record Cramped (lends : Bool) (w : Value) (es : List Event) (room : ℕ) : T
   pub handed : hands_out event ≡ Some text
   pub long : room < length text
 
--- the answer is a refusal with this number
-abbrev pub RefusedBy : ℕ → Answer → Type 0
-RefusedBy n a = (f : Refusal) × (a ≡ answer.Refused f) × (number_of f.cause ≡ n)
-
 -- on a whole body within the limits
 abbrev pub Reads : Bool → Value → List Event → Call → Answer → Type 0
 Reads lends w es call.Open a = Unit {0}
 Reads lends w es (call.Next room) a = record {
   done : a ≡ answer.Done → es ≡ events w;
   ended : es ≡ events w → a ≡ answer.Done;
-  refused : (f : Refusal) → a ≡ answer.Refused f → (number_of f.cause ≡ 14) × Cramped lends w es room;
+  refused : IfRefused (λ f. (number_of f.cause ≡ 14) × Cramped lends w es room) a;
   cramped : Cramped lends w es room → RefusedBy 14 a;
 }
 Reads lends w es call.Skip a = a ≡ answer.Skipped (stretch 0 (drop (length es) (events w)))
@@ -254,17 +272,6 @@ pub record GoesOn (lends : Bool) (v : View) (start size : ℕ) (r : Option Refus
 
 -- ---- when a call is tried at all
 
--- what holds of the refusal, if it is one
-abbrev pub IfRefused : (Refusal → Type 0) → Answer → Type 0
-IfRefused P a = (f : Refusal) → a ≡ answer.Refused f → P f
-
-abbrev pub ForGood : Refusal → Type 0
-ForGood f = latching f.cause ≡ true
-
--- for good, or for want of room in a copying reader's text buffer
-abbrev pub ForGoodOrRoom : Bool → Refusal → Type 0
-ForGoodOrRoom lends f = ForGood f ⊎ ((lends ≡ false) × (number_of f.cause ≡ 14))
-
 -- A refusal for good comes again. Else a call out of turn is refused by 1, and one in turn is tried.
 abbrev pub Asked : Option Refusal → Bool → Type 0 → Answer → Type 0
 Asked (Some f) in_turn tried a = a ≡ answer.Refused f
@@ -297,7 +304,7 @@ Turn lends o r (call.Close e) a = CloseAsked o r e a
 
 -- a call that takes nothing leaves the reader's count as it was before
 pub record Still (n : ℕ) (r : Option Refusal) (m : Moment) : Type 0 where
-  pub out_of_turn : (f : Refusal) → m.answer ≡ answer.Refused f → number_of f.cause < 3 → (f.place ≡ n) × (m.count ≡ n)
+  pub out_of_turn : IfRefused (λ f. number_of f.cause < 3 → (f.place ≡ n) × (m.count ≡ n)) m.answer
   pub again : (f : Refusal) → r ≡ Some f → m.count ≡ n
   pub closing : (e : Extent) → m.call ≡ call.Close e → m.count ≡ n
 
@@ -332,10 +339,6 @@ Suits call.Skip (answer.Skipped n) = Unit {0}
 Suits (call.Close e) (answer.Closed k) = Unit {0}
 Suits c (answer.Refused f) = Unit {0}
 Suits c a = ⊥
-
--- the answer is a refusal
-abbrev pub Refuses : Answer → Type 0
-Refuses a = (f : Refusal) × (a ≡ answer.Refused f)
 
 -- nothing has been opened: the answer is a refusal, and nothing is counted
 pub record Idle (m : Moment) : Type 0 where
