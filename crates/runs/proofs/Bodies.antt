@@ -220,11 +220,13 @@ module _ {lends : Bool} {v : View} {start size : ℕ} where
         grows = omega arith;
       }
 
-  pub stopped_inside : {space : Option ℕ} {taken : List ℕ} {es : List value.Event} {b c : Body} {f : Refusal} → Live lends v start size taken es b → Stopped lends (lent_bytes lends v) space b f c → c.reader.count ≤ start + size
+  pub stopped_inside : {space : Option ℕ} {taken : List ℕ} {es : List value.Event} {b c : Body} {f : Refusal} → Live lends v start size taken es b →
+      Stopped lends (lent_bytes lends v) space b f c → c.reader.count ≤ start + size
   stopped_inside {c = c} l s = after_end c.reader.count l (s.inside (before_end l))
 
   -- a text is awaited
-  pub wait : {space : Option ℕ} {taken : List ℕ} {es : List value.Event} {b c : Body} {f : Refusal} → Live lends v start size taken es b → Stopped lends (lent_bytes lends v) space b f c → Waiting lends (lent_bytes lends v) b c →
+  pub wait : {space : Option ℕ} {taken : List ℕ} {es : List value.Event} {b c : Body} {f : Refusal} → Live lends v start size taken es b →
+      Stopped lends (lent_bytes lends v) space b f c → Waiting lends (lent_bytes lends v) b c →
       Live lends v start size taken es c
   wait {taken} {es} {b} {c} l s t =
       let there = l.count in
@@ -282,7 +284,8 @@ module _ {lends : Bool} {v : View} {start size : ℕ} where
           absurd (cc)
 
   -- a step was refused for good
-  pub stuck : {taken : List ℕ} {es : List value.Event} {b c : Body} {f : Refusal} {x : List ℕ} (space : Option ℕ) → Live lends v start size taken es b → Stopped lends (lent_bytes lends v) space b f c →
+  pub stuck : {taken : List ℕ} {es : List value.Event} {b c : Body} {f : Refusal} {x : List ℕ} (space : Option ℕ) → Live lends v start size taken es b →
+      Stopped lends (lent_bytes lends v) space b f c →
       step lends space b ≡ stops f c x → latching f.cause ≡ true →
       (d : Body) → d.opens ≡ c.opens → d.events ≡ c.events → d.reader.count ≤ start + size → Stuck lends v start size taken es f d
   stuck space l s stop latches d opens events inside =

@@ -200,7 +200,8 @@ same_closed {n} {l} {m} {k} e =
     let same : record { events = n; length = l } ≡ record { events = m; length = k } = cc in
     (ap (λ (c : Closed). c.events) same, ap (λ (c : Closed). c.length) same)
 
-pub closes_right : {lends : Bool} {v : View} {h : List Moment} {s t : State} {a : Answer} (y : Story lends v h s) → phase h ≡ running (record { start = y.start; length = y.size }) → {r : Option Refusal} → s.latched ≡ r →
+pub closes_right : {lends : Bool} {v : View} {h : List Moment} {s t : State} {a : Answer} (y : Story lends v h s) → phase h ≡ running (record { start = y.start; length = y.size }) →
+    {r : Option Refusal} → s.latched ≡ r →
     Made (Meets (close_call (token 0 (record { start = y.start; length = y.size })) s)) CloseAnswer a t → Closes v y.start y.size r y.es (y.start + length y.taken) a
 closes_right {lends} {v} {h} {s} {t} {a} y on latched made =
     let (own, i) = in_pdu_now y on in

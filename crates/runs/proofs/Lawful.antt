@@ -100,7 +100,8 @@ turns {lends} {v} {h} {s} {t} sound k m l = subst₂ (λ p o. Turn lends p o m.c
     go call.Skip is made = asked (skip_taken_up k m is made.0)
     go (call.Close e) is made = close_asked k m is made.0
 
-stills : {lends : Bool} {v : View} {h : List Moment} {s t : State} → Sound lends v → Kept lends v h s → (m : Moment) → Logged lends s m t → s.body.reader.count ≡ count_after v.count h → Still (count_after v.count h) (for_good h) m
+stills : {lends : Bool} {v : View} {h : List Moment} {s t : State} → Sound lends v → Kept lends v h s → (m : Moment) → Logged lends s m t →
+    s.body.reader.count ≡ count_after v.count h → Still (count_after v.count h) (for_good h) m
 stills {lends} {v} {h} {s} {t} sound k m l counts = record {
   out_of_turn = λ f is few. let (place, body) = all.by_number f is few in (place ∙ counts, stays body);
   again = λ f first. stays (all.for_good f (latched_first k.latch ∙ first));
@@ -132,7 +133,8 @@ stills {lends} {v} {h} {s} {t} sound k m l counts = record {
         go call.Skip is made = leaves_all latches good (skip_taken_up k m is made.0)
         go (call.Close e) is made = (close_leaves k m is made.0).1
 
-goes_on : {lends : Bool} {v : View} {h : List Moment} {s t : State} → Kept lends v h s → (y : Story lends v h s) → phase h ≡ running (record { start = y.start; length = y.size }) → (m : Moment) → Logged lends s m t →
+goes_on : {lends : Bool} {v : View} {h : List Moment} {s t : State} → Kept lends v h s → (y : Story lends v h s) → phase h ≡ running (record { start = y.start; length = y.size }) →
+    (m : Moment) → Logged lends s m t →
     GoesOn lends v y.start y.size (for_good h) y.es (y.start + length y.taken) m
 goes_on {lends} {v} {h} {s} {t} k y on m l = record {
   closes = λ is. closes_right y on (latched_first k.latch) (subst (λ c. MadeBy lends s c m.answer m.text t) is l.made).0;

@@ -64,7 +64,8 @@ pub latch_none : {lends : Bool} {v w : View} (h : List Moment) (m : Moment) {o :
 latch_none h m e d u k = rw e (uncaught d (for_good_last None h m ∙ ap (λ o. first_for_good o m.answer) u ∙ k))
 
 -- this is the first
-pub latch_some : {lends : Bool} {v w : View} (h : List Moment) (m : Moment) {o : Option Refusal} {f : Refusal} → o ≡ Some f → for_good h ≡ None → m.answer ≡ answer.Refused f → latching f.cause ≡ true →
+pub latch_some : {lends : Bool} {v w : View} (h : List Moment) (m : Moment) {o : Option Refusal} {f : Refusal} → o ≡ Some f → for_good h ≡ None → m.answer ≡ answer.Refused f →
+    latching f.cause ≡ true →
     Latch lends v (h ++ (m ∷ [])) w o
 latch_some h m {f = f} e u a l = rw e (caught l (for_good_last None h m ∙ ap (λ o. first_for_good o m.answer) u ∙ ap (first_for_good None) a ∙ ap (λ b. cond b (Some f) None) l))
 

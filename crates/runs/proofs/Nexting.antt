@@ -183,7 +183,8 @@ room_tight {room = room} w {es} x {t} told c =
 not_all : (w : Value) {es : List value.Event} (t : value.Event) (x : List value.Event) → events w ≡ es ++ (t ∷ x) → es ≡ events w → ⊥
 not_all w t x told all = absurd (omega (arith, simp length-append at (ap length (all ∙ told))))
 
-pub next_reads : {lends : Bool} {v : View} {h : List Moment} {s t : State} {a : Answer} {room : ℕ} (y : Story lends v h s) → phase h ≡ running (record { start = y.start; length = y.size }) → (w : Value) → Whole lends v y.start y.size w →
+pub next_reads : {lends : Bool} {v : View} {h : List Moment} {s t : State} {a : Answer} {room : ℕ} (y : Story lends v h s) →
+    phase h ≡ running (record { start = y.start; length = y.size }) → (w : Value) → Whole lends v y.start y.size w →
     Made (Meets (next_call lends room s)) NextAnswer a t →
     Reads lends w y.es (call.Next room) a
 next_reads {lends} {v} {h} {s} {t} {a} {room} y on w whole made =

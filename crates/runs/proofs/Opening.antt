@@ -87,7 +87,8 @@ module _ {lends : Bool} {v : View} {h : List Moment} {s : State} (sound : Sound 
 
   -- ---- what it keeps
 
-  accepted_kept : s.latched ≡ None → m.call ≡ call.Open → (e : Header) (w : View) → header_read lends s.body.reader ≡ got e w → m.answer ≡ answer.Opened e → m.count ≡ (opened s e w).body.reader.count →
+  accepted_kept : s.latched ≡ None → m.call ≡ call.Open → (e : Header) (w : View) → header_read lends s.body.reader ≡ got e w → m.answer ≡ answer.Opened e →
+      m.count ≡ (opened s e w).body.reader.count →
       Kept lends v (h ++ (m ∷ [])) (opened s e w)
   accepted_kept loose is e w read a counts = record {
     latch = latch_none h m refl drawn (sym (latched_first k.latch) ∙ loose) (ap (first_for_good None) a);

@@ -225,7 +225,8 @@ module _ {lends : Bool} {v : View} {h : List Moment} {s t : State} (k : Kept len
 
 -- ---- what it answers over a whole body
 
-pub skip_reads : {lends : Bool} {v : View} {h : List Moment} {s t : State} {a : Answer} (y : Story lends v h s) → phase h ≡ running (record { start = y.start; length = y.size }) → (w : Value) → Whole lends v y.start y.size w →
+pub skip_reads : {lends : Bool} {v : View} {h : List Moment} {s t : State} {a : Answer} (y : Story lends v h s) → phase h ≡ running (record { start = y.start; length = y.size }) →
+    (w : Value) → Whole lends v y.start y.size w →
     Made (SkipCall lends s) SkipAnswer a t →
     Reads lends w y.es call.Skip a
 skip_reads {lends} {v} {h} {s} {t} {a} y on w whole made =

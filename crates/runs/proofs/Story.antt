@@ -82,7 +82,8 @@ pub running_inside : {lends : Bool} {v : View} {start size : ℕ} {taken : List 
 running_inside (goes_on l) = l.inside
 running_inside (stands_still l) = l.inside
 
-pub truth : {lends : Bool} {v : View} {h : List Moment} {s : State} (y : Story lends v h s) (m : Moment) {r : Option Refusal} → s.latched ≡ r → m.count ≡ s.body.reader.count → Tells m s → Truthful v y.start y.size r y.es (y.start + length y.taken) m
+pub truth : {lends : Bool} {v : View} {h : List Moment} {s : State} (y : Story lends v h s) (m : Moment) {r : Option Refusal} → s.latched ≡ r → m.count ≡ s.body.reader.count →
+    Tells m s → Truthful v y.start y.size r y.es (y.start + length y.taken) m
 truth {lends} {v} {h} {s} y m {r} latched counts tells = record {
   every = λ w formed (rest, begins). let (x, told, completes) = reached.every w formed rest (begins ∙ ap (λ l. l ++ rest) bytes) in (x, told);
   some = let (w, formed, rest, begins) = reached.some in (w, formed, (rest, begins ∙ ap (λ l. l ++ rest) (sym bytes)));
@@ -169,7 +170,8 @@ none_opened (call.Next room) f = refl
 none_opened call.Skip f = refl
 none_opened (call.Close e) f = refl
 
-pub untouched_on : {h : List Moment} {s : State} → Untouched h s → (m : Moment) (t : State) {f : Refusal} → m.answer ≡ answer.Refused f → t.pdu ≡ s.pdu → t.body.events ≡ s.body.events → t.last ≡ s.last → Tells m t →
+pub untouched_on : {h : List Moment} {s : State} → Untouched h s → (m : Moment) (t : State) {f : Refusal} → m.answer ≡ answer.Refused f → t.pdu ≡ s.pdu →
+    t.body.events ≡ s.body.events → t.last ≡ s.last → Tells m t →
     Untouched (h ++ (m ∷ [])) t
 untouched_on {h} u m t {f} a pdu events last tells = record {
   none = phase_last none_yet h m ∙ ap (λ p. phase_after p m.call m.answer) u.none ∙ ap (phase_after none_yet m.call) a ∙ none_opened m.call f;
@@ -252,11 +254,13 @@ in_pdu_now {lends} {v} {h} {s} y on = go y.stands
     go (behind_it is shut n) = absurd (cc)
     go (off_it is shut) = absurd (cc)
 
-pub live_now : {lends : Bool} {v : View} {start size : ℕ} {taken : List ℕ} {es : List Event} {b : Body} {o : Option Refusal} → InPdu lends v start size taken es b o → o ≡ None → Live lends v start size taken es b
+pub live_now : {lends : Bool} {v : View} {start size : ℕ} {taken : List ℕ} {es : List Event} {b : Body} {o : Option Refusal} → InPdu lends v start size taken es b o → o ≡ None →
+    Live lends v start size taken es b
 live_now (goes_on l) loose = l
 live_now (stands_still l) loose = absurd (cc)
 
 -- over a whole body no call of an open PDU was refused for good
-pub unstuck : {lends : Bool} {v : View} {start size : ℕ} {taken : List ℕ} {es : List Event} {b : Body} {o : Option Refusal} → InPdu lends v start size taken es b o → (w : Value) → Whole lends v start size w → o ≡ None
+pub unstuck : {lends : Bool} {v : View} {start size : ℕ} {taken : List ℕ} {es : List Event} {b : Body} {o : Option Refusal} → InPdu lends v start size taken es b o → (w : Value) →
+    Whole lends v start size w → o ≡ None
 unstuck (goes_on l) w whole = refl
 unstuck (stands_still l) w whole = absurd (l.none_whole w whole)

@@ -41,20 +41,8 @@ pub good_number : (c : Cause) → latching c ≡ true → 3 ≤ number_of c
 good_number cause.OutOfTurn h = absurd (cc)
 good_number cause.Token h = absurd (cc)
 good_number (cause.Read error.Room) h = absurd (cc)
-good_number (cause.Read error.Short) h = omega arith
-good_number (cause.Read (error.Source code)) h = omega arith
-good_number (cause.Read (error.Magic bytes)) h = omega arith
-good_number (cause.Read (error.Byte kind b)) h = omega arith
-good_number (cause.Read error.Negative) h = omega arith
-good_number (cause.Read error.TooLong) h = omega arith
-good_number (cause.Read error.End) h = omega arith
-good_number (cause.Read error.Stop) h = omega arith
-good_number (cause.Read error.NotText) h = omega arith
-good_number cause.Depth h = omega arith
-good_number cause.KeyRoom h = omega arith
-good_number cause.NoKeys h = omega arith
-good_number cause.Unfinished h = omega arith
-good_number (cause.Length expected count) h = omega arith
+good_number (cause.Read _) h = omega arith
+good_number _ h = omega arith
 
 -- what is known of one refusal is known of the answer
 pub known_of : {a : Answer} {f : Refusal} (P : Refusal → Type 0) → a ≡ answer.Refused f → P f → IfRefused P a
