@@ -20,7 +20,7 @@ use Rattle.room.specs.KeyList.{key_list_read}
 use Rattle.de.specs.declared.event.Event.{Event}
 use Rattle.de.specs.declared.event.Event.TheVariants as event
 use Rattle.de.specs.declared.event.Ahead.TheVariants as ahead
-use Rattle.de.specs.Steps.{Body, moved, Coming, comes, halts, reading, levelled, keyless, refuse, passes, awaits, no_item, rows_by, rows_come, int_comes, real_comes, text_comes, key_comes, tag_comes, array_comes, object_comes, template_comes, gap_comes, tagged, item_comes, due_comes, unread_comes, coming}
+use Rattle.de.specs.Steps.{Body, moved, Coming, comes, halts, reading, levelled, keyless, refuse, passes, awaits, rows_by, rows_come, int_comes, real_comes, text_comes, key_comes, tag_comes, array_comes, object_comes, template_comes, gap_comes, tagged, item_comes, due_comes, unread_comes, coming}
 
 abbrev pub Awaited : Coming → Type 0
 Awaited (comes ahead.Nothing b) = Unit {0}

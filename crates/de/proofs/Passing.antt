@@ -9,7 +9,7 @@ use Rattle.bunser.specs.declared.text.TextKind.TheVariants as kind
 use Rattle.bunser.specs.declared.text.Unread.{Unread}
 use Rattle.bunser.specs.Outcome.{Outcome, got, bad, at, placed, placed_result, ReadLeaves, Tells, TellsAt}
 use Rattle.bunser.specs.Texts.{checked}
-use Rattle.bunser.specs.Passing.{passing, drawn_over, whole_read, pass_read, text_passed}
+use Rattle.bunser.specs.Passing.{passing, whole_read, pass_read, text_passed}
 use Rattle.bunser.proofs.Telling.{ok_err, err_is, told_placed}
 use Rattle.format.specs.declared.refusal.Cause.{Cause}
 use Rattle.format.specs.declared.refusal.Cause.TheVariants as cause
@@ -46,7 +46,7 @@ undrawn lends f b calm = ap (moved b) (go f.cause)
     go (cause.Length expected count) = refl
 
 module _ (lends : Bool) (u : Unread) (b : Body) (waits : b.unread ≡ Some u) (w : View) (p : ℕ) (here : p ≡ b.reader.count) (r : Result Unit ReadError) (reads : Tells (text_passed lends b.end u b.reader) r w)
-  (k : Result Unit Refusal) (is_placed : k ≡ placed_result p r) where
+    (k : Result Unit Refusal) (is_placed : k ≡ placed_result p r) where
   told : TellsAt (placed b.reader.count (passing lends (text_outcome u.kind lends b.end (text_space lends None) u.len b.reader))) k w
   unfolding pass_read
   told = subst (λ m. TellsAt (placed b.reader.count (passing lends m)) k w) (sym (same_read u.kind lends b.end u.len b.reader)) (told_placed (text_passed lends b.end u b.reader) p b.reader.count r k w here reads is_placed)

@@ -1,11 +1,11 @@
 -- What a skip does from here is what it does from where it began.
-use Rattle.std.proofs.Common.{◌≡◌, ℕ, ◌+◌, ◌<◌, ◌≤◌, Bool, true, false, List, IsErrAnd, Some, None, Ok, Err, Option, Result, refl, sym, ap, ◌∙◌, subst, subst₂}
+use Rattle.std.proofs.Common.{◌≡◌, ℕ, ◌<◌, ◌≤◌, Bool, true, false, List, IsErrAnd, Some, None, Ok, Err, Result, refl, sym, ap, ◌∙◌}
 use Rattle.format.specs.declared.refusal.Refusal.{Refusal}
 use Rattle.bunser.proofs.Telling.{ok_err, err_is}
 use Rattle.room.specs.Open.{nesting}
 use Rattle.de.specs.declared.event.Event.{Event}
-use Rattle.de.specs.Steps.{Body, Out, gives, stops, counted, step, Apart}
-use Rattle.de.specs.Calls.{drawn, PassesOver, Skips, over, stuck, last, onward}
+use Rattle.de.specs.Steps.{Body, Out, gives, stops, counted, step}
+use Rattle.de.specs.Calls.{PassesOver, Skips, over, stuck, last, onward}
 use Rattle.de.proofs.Falling.{left, step_falls}
 
 -- what the rest of a skip does from here, where so many have passed, is what the skip does

@@ -1,3 +1,5 @@
+ghost use Rattle.std.specs.Prelude.{◌+◌, ◌≤◌};
+
 use bunser::Header;
 
 // Not a `Header`, since a token is asked about these two numbers alone, nor a part of it, where
@@ -7,6 +9,14 @@ use bunser::Header;
 pub struct Extent {
     pub start: usize,
     pub length: usize,
+}
+
+/// The PDU that is open, which ends by 2^60.
+#[derive(Clone, Copy)]
+pub struct OpenPdu {
+    pub(crate) start: usize,
+    pub(crate) length: usize,
+    ghost bounded: { start + length ≤ 1152921504606846976 },
 }
 
 /// What `open` read of a PDU. It has to be given to `close`, once.

@@ -1,4 +1,4 @@
-use Rattle.std.proofs.Common.{◌≡◌, ◌<◌, ◌≤◌, ap, ◌∙◌, sym, subst, true, false, Ok, arith}
+use Rattle.std.proofs.Common.{subst, Ok, arith}
 use Rattle.room.specs.Open.{nesting}
 use Rattle.de.specs.Steps.{step}
 use Rattle.de.specs.Calls.{PassesOver}

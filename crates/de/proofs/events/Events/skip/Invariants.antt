@@ -1,4 +1,3 @@
-use Rattle.std.proofs.Common.{◌≡◌}
 use Rattle.room.specs.Open.{nesting}
 use Rattle.de.specs.Held.{body_of}
 use Rattle.de.proofs.Falling.{left}

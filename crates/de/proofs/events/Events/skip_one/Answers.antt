@@ -1,5 +1,4 @@
-use Rattle.std.proofs.Common.{◌≡◌, ap, ◌∙◌, Ok, subst, refl, true, false}
-use Rattle.room.specs.Open.{row_turned}
+use Rattle.std.proofs.Common.{ap, ◌∙◌, Ok, subst, refl, true, false}
 use Rattle.de.specs.Steps.{behind, coming, Finds}
 use Rattle.de.specs.declared.event.Ahead.TheVariants as ahead
 use Rattle.de.specs.Held.{body_of}

@@ -1,5 +1,5 @@
-use Rattle.std.proofs.Common.{ap, ◌∙◌, sym}
-use Rattle.de.specs.Steps.{opened, behind, behind_text}
+use Rattle.std.proofs.Common.{ap, ◌∙◌}
+use Rattle.de.specs.Steps.{behind, behind_text}
 use Rattle.de.specs.Held.{body_of}
 use Rattle.de.proofs.Passing.{text_passes, text_stops}
 use Rattle.de.proofs.events.Events.skip_text.Goals as goal
