@@ -5,3 +5,4 @@ pub mod Made
 pub mod Held
 pub mod Decoding
 pub mod Turns
+pub mod Rooms

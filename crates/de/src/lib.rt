@@ -9,6 +9,7 @@ pub mod entry;
 pub mod event;
 pub mod events;
 mod item;
+mod made;
 pub mod pdu;
 mod skip;
 mod template;
