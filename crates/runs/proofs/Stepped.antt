@@ -12,7 +12,9 @@ use Rattle.de.specs.declared.event.Event.{Event}
 use Rattle.de.specs.Shown.{shown}
 use Rattle.de.specs.Steps.{Body, gives, stops, counted, step}
 use Rattle.runs.specs.Law.{limits, hands_out}
-use Rattle.runs.proofs.Taking.{levels, Fit, Takes, Front, Waits}
+use Rattle.room.specs.Open.{bytes_held}
+use Rattle.values.specs.Limits.{RoomForKeyBytes}
+use Rattle.runs.proofs.Taking.{levels, Fit, Takes, Front, Waits, names_long}
 
 -- these bytes were taken of a reader
 pub record Took (lends : Bool) (v w : View) (bs : List ℕ) : Type 0 where
@@ -33,6 +35,8 @@ pub record Ready (lends : Bool) (input : List ℕ) (b : Body) : Type 0 where
   pub solid : Solid lends input b.reader
   pub fit : Fit lends b.opens
   pub waits : Waits b.unread (levels input b.opens)
+  -- the key bytes of the open templates were admitted
+  pub held : RoomForKeyBytes (limits lends) (bytes_held names_long (levels input b.opens))
 
 -- an event has passed
 pub record Stepped (lends : Bool) (input : List ℕ) (b : Body) (e : Event) (c : Body) (x : List ℕ) : Type 0 where

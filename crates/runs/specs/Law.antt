@@ -8,6 +8,8 @@ use Rattle.format.specs.declared.width.Width.{Width}
 use Rattle.format.specs.declared.refusal.Refusal.{Refusal}
 use Rattle.values.specs.Values.{Value, encoding, Event, events, Formed, count_encoding, Fits, array_begin, array_end, map_begin, map_end, key, an_integer, a_real, some_bytes, some_text, is_true, is_false, is_null, absent}
 use Rattle.values.specs.Limits.{Limits, Within, lending, copying}
+use Rattle.de.specs.declared.pdu.Extent.{Extent}
+use Rattle.de.specs.declared.pdu.Closed.{Closed}
 use Rattle.de.specs.declared.entry.Call.{Call}
 use Rattle.de.specs.declared.entry.Call.TheVariants as call
 use Rattle.de.specs.declared.entry.Answer.{Answer}
@@ -167,10 +169,23 @@ pub record Whole (lends : Bool) (v : View) (start size : ℕ) (w : Value) : Type
   pub within : Within w (limits lends) 0 0 0
   pub clear : past v.stop (start + size) ≡ false
 
+-- the answer is a refusal
+abbrev pub Refuses : Answer → Type 0
+Refuses (answer.Opened h) = ⊥
+Refuses (answer.Gave e) = ⊥
+Refuses answer.Done = ⊥
+Refuses (answer.Skipped n) = ⊥
+Refuses (answer.Closed k) = ⊥
+Refuses (answer.Refused f) = Unit {0}
+
 -- the call after these events
 pub record GoesOn (lends : Bool) (v : View) (start size : ℕ) (p : Phase) (es : List Event) (m : Moment) : Type 0 where
   pub closes : p ≡ running → m.call ≡ call.Close (record { start = start; length = size }) → Closes v start size es m.answer
   pub reads : p ≡ running → (w : Value) → Whole lends v start size w → Reads lends w es m.call m.answer
+  -- where no PDU is open, every call but open is refused
+  pub out_of_turn : (p ≡ running → ⊥) → (m.call ≡ call.Open → ⊥) → Refuses m.answer
+  -- a close is accepted of the open PDU alone
+  pub own : (e : Extent) (k : Closed) → m.call ≡ call.Close e → m.answer ≡ answer.Closed k → e ≡ record { start = start; length = size }
 
 -- ---- open accepts exactly when it should
 
@@ -226,14 +241,6 @@ Suits c (answer.Refused f) = Unit {0}
 Suits c a = ⊥
 
 -- nothing has been opened: every answer is a refusal, and nothing is counted
-abbrev pub Refuses : Answer → Type 0
-Refuses (answer.Opened h) = ⊥
-Refuses (answer.Gave e) = ⊥
-Refuses answer.Done = ⊥
-Refuses (answer.Skipped n) = ⊥
-Refuses (answer.Closed k) = ⊥
-Refuses (answer.Refused f) = Unit {0}
-
 pub record Idle (m : Moment) : Type 0 where
   pub refuses : Refuses m.answer
   pub no_events : m.events ≡ 0
@@ -256,4 +263,4 @@ pub record PduStory (lends : Bool) (v : View) (h : List Moment) (m : Moment) (k 
 
 abbrev pub Law : Bool → View → List Moment → Type 0
 Law lends v told = (h : List Moment) (m : Moment) (k : List Moment) → told ≡ h ++ (m ∷ k) →
-    Suits m.call m.answer × (AllIdle (h ++ (m ∷ [])) ⊎ PduStory lends v h m k) × (m.call ≡ call.Open → Opens v h m)
+    Suits m.call m.answer × (AllIdle (h ++ (m ∷ [])) ⊎ PduStory lends v h m k) × (m.call ≡ call.Open → Opens v h m) × (Unlatched h ⊎ Refuses m.answer)
