@@ -36,3 +36,4 @@ pub mod Closing
 pub mod Nexting
 pub mod Skipping
 pub mod Lawful
+pub mod Logging
