@@ -37,3 +37,4 @@ pub mod Closing
 pub mod Nexting
 pub mod Skipping
 pub mod Lawful
+pub mod Logging
