@@ -20,10 +20,9 @@ use Rattle.de.specs.Steps.{Body}
 use Rattle.de.specs.Calls.{State, Meets, gave, telling, latch, here, shut, refusing, finished, finished_by, close_by, close_own, close_call, owns, up_to}
 use Rattle.de.specs.Made.{Moment, Made, CloseAnswer, token}
 use Rattle.runs.specs.Law.{lent_bytes, running, over, phase, phase_after, close_phase, first_for_good, RefusedAgrees, Agrees, Declared, Closes, Unclosed, ForGood, Again, CloseAsked}
-use Rattle.runs.proofs.Taking.{levels}
+use Rattle.runs.proofs.Taking.{none_ahead, levels}
 use Rattle.runs.proofs.Coming.{all_come}
 use Rattle.runs.proofs.Reached.{Reached, whole_body}
-use Rattle.runs.proofs.Made.{none_ahead}
 use Rattle.runs.proofs.Bodies.{Passing, passing_still, no_levels, none_more, has_ended, nothing_open, none_awaited, Live, still_to_come}
 use Rattle.runs.proofs.Moments.{drawn_of, latched_first, latches_of, latch_none, latch_some, latch_still, agrees_refused, as_told, latched_by}
 use Rattle.runs.proofs.Turns.{good_number, known_of, LeavesAll}

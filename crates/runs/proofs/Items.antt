@@ -28,7 +28,7 @@ use Rattle.de.specs.declared.event.Ahead.TheVariants as ahead
 use Rattle.de.specs.Shown.{shown}
 use Rattle.de.specs.Steps.{Body, Coming, comes, halts, passes, moved, awaiting, behind, reading, int_comes, real_comes, text_comes, key_comes, tag_comes, levelled, array_comes, object_comes, keyless, rows_by, rows_come, template_comes, gap_comes, tagged, item_comes, text_step}
 use Rattle.runs.specs.Law.{limits}
-use Rattle.runs.proofs.Taking.{level, levels, all_named, Fit, Wants, Plain, null_is, true_is, false_is, integer_is, real_is, template_front, TemplateWithin, Takes, plain_comes, Tagged, Front, head_taken, KeyWanted, TextWanted}
+use Rattle.runs.proofs.Taking.{none_ahead, level, levels, all_named, Fit, Wants, Plain, null_is, true_is, false_is, integer_is, real_is, template_front, TemplateWithin, Takes, plain_comes, Tagged, Front, head_taken, KeyWanted, TextWanted}
 use Rattle.runs.proofs.Taking as taking
 use Rattle.runs.proofs.Stepped.{Ready, Stepped, Stopped}
 use Rattle.runs.proofs.Keys.{KeyListRead, key_list_reads}
@@ -37,7 +37,7 @@ use Rattle.runs.proofs.Levels.{many_named, levels_filled, levels_depth, levels_k
 use Rattle.runs.proofs.Took.{Gotten, gotten_more, gotten_as, gotten_on}
 use Rattle.runs.proofs.Reading.{Comes, Failed, Halted, halted_before, failed_behind, halted_behind, placed_comes, Peeked, peeked_untaken, placed_peek_reads}
 use Rattle.runs.proofs.NumberReads.{NumberRead, int_reads, RealRead, real_reads, CountRead, placed_count_reads, KeyLengthRead, key_length_reads}
-use Rattle.runs.proofs.Made.{Made, Goes, cond_made, none_ahead, passed, halted, reading_made}
+use Rattle.runs.proofs.Made.{Made, Goes, cond_made, passed, halted, reading_made}
 use Rattle.runs.proofs.TextSteps.{text_made, made_behind}
 
 rows_keyed : (lends : Bool) (n : ℕ) (cs : List Column) (m : ℕ) → length cs ≡ m → keyless n cs ≡ false → RowsKeyed (limits lends) n m

@@ -59,7 +59,7 @@ count_told : {lends : Bool} {v : View} {h : List Moment} {t : State} → Told le
 count_told none_yet = refl
 count_told {v = v} (told_more {h = h} m told l) = sym l.counts ∙ sym (count_last v.count h m)
 
--- ---- the call after what has passed
+-- ---- what holds of one call
 
 suits : {lends : Bool} {s t : State} (m : Moment) → Logged lends s m t → Suits m.call m.answer
 suits {lends} {s} {t} m l = go m.call l.made
@@ -91,8 +91,8 @@ suits {lends} {s} {t} m l = go m.call l.made
     go call.Skip made = skipped made.0.result made.0.answers
     go (call.Close e) made = closed e made.0.result made.0.answers
 
-turns : {lends : Bool} {v : View} {h : List Moment} {s t : State} → Sound lends v → Kept lends v h s → (m : Moment) → Logged lends s m t → Turn lends (open_pdu (phase h)) (for_good h) m.call m.answer
-turns {lends} {v} {h} {s} {t} sound k m l = subst₂ (λ p o. Turn lends p o m.call m.answer) (pdu_told k) (latched_first k.latch) (go m.call refl l.made)
+turn_right : {lends : Bool} {v : View} {h : List Moment} {s t : State} → Sound lends v → Kept lends v h s → (m : Moment) → Logged lends s m t → Turn lends (open_pdu (phase h)) (for_good h) m.call m.answer
+turn_right {lends} {v} {h} {s} {t} sound k m l = subst₂ (λ p o. Turn lends p o m.call m.answer) (pdu_told k) (latched_first k.latch) (go m.call refl l.made)
   where
     go : (c : Call) → m.call ≡ c → MadeBy lends s c m.answer m.text t → Turn lends s.pdu s.latched c m.answer
     go call.Open is made = asked (open_taken_up sound k m t made.0)
@@ -100,9 +100,9 @@ turns {lends} {v} {h} {s} {t} sound k m l = subst₂ (λ p o. Turn lends p o m.c
     go call.Skip is made = asked (skip_taken_up k m is made.0)
     go (call.Close e) is made = close_asked k m is made.0
 
-stills : {lends : Bool} {v : View} {h : List Moment} {s t : State} → Sound lends v → Kept lends v h s → (m : Moment) → Logged lends s m t →
+nothing_taken : {lends : Bool} {v : View} {h : List Moment} {s t : State} → Sound lends v → Kept lends v h s → (m : Moment) → Logged lends s m t →
     s.body.reader.count ≡ count_after v.count h → Still (count_after v.count h) (for_good h) m
-stills {lends} {v} {h} {s} {t} sound k m l counts = record {
+nothing_taken {lends} {v} {h} {s} {t} sound k m l counts = record {
   out_of_turn = λ f is few. let (place, body) = all.by_number f is few in (place ∙ counts, stays body);
   again = λ f first. stays (all.for_good f (latched_first k.latch ∙ first));
   closing = λ e is. stays (close_leaves k m is (subst (λ c. MadeBy lends s c m.answer m.text t) is l.made).0).0;
@@ -210,8 +210,8 @@ lawful {lends} {v} sound all h m k e =
     let (s, before, logged) = told_last here.told h m refl in
     record {
       suits = suits m logged;
-      turn = turns sound (kept_all sound before) m logged;
-      still = stills sound (kept_all sound before) m logged (count_told before);
+      turn = turn_right sound (kept_all sound before) m logged;
+      still = nothing_taken sound (kept_all sound before) m logged (count_told before);
       opens = λ is. opens_right sound (kept_all sound before) m here.state (count_told before) (subst (λ c. MadeBy lends s c m.answer m.text here.state) is logged.made).0;
       story = by here (kept_all sound here.told) logged.counts (tells logged);
     }

@@ -35,6 +35,7 @@ pub mod Story
 pub mod Opening
 pub mod Closing
 pub mod Nexting
+pub mod SkipEnds
 pub mod Skipping
 pub mod Lawful
 pub mod Logging

@@ -1,9 +1,8 @@
 -- What an event or a refusal of a step says of the body before it.
-use Rattle.std.proofs.Common.{◌≡◌, ℕ, Bool, true, false, cond, inl, List, [], ◌++◌, Some, None, Option, sym, refl, subst, arith}
+use Rattle.std.proofs.Common.{◌≡◌, ℕ, Bool, true, false, cond, inl, List, [], ◌++◌, Some, None, Option, sym, refl, subst}
 use Rattle.source.specs.Feed.{fronted}
 use Rattle.read.specs.Reader.{View}
 use Rattle.format.specs.declared.refusal.Refusal.{Refusal}
-use Rattle.bunser.specs.declared.text.Unread.{Unread}
 use Rattle.bunser.specs.Outcome.{Outcome, got, bad}
 use Rattle.room.specs.Open.{Column, Open}
 use Rattle.values.specs.Values as value
@@ -11,7 +10,7 @@ use Rattle.de.specs.declared.event.Event.{Event}
 use Rattle.de.specs.Shown.{shown}
 use Rattle.de.specs.Steps.{Body, Coming, Out, gives, stops, moved, behind, reading, finishing}
 use Rattle.runs.specs.Law.{limits}
-use Rattle.runs.proofs.Taking.{levels, Fit, Takes, Front, none_taken, head_taken}
+use Rattle.runs.proofs.Taking.{none_ahead, levels, Fit, Takes}
 use Rattle.runs.proofs.Stepped.{Ready, Stepped, Stopped}
 use Rattle.runs.proofs.Levels.{takes_within}
 use Rattle.runs.proofs.Took.{Gotten, gotten_on}
@@ -31,10 +30,6 @@ pub cond_made : (lends : Bool) (input : List ℕ) (space : Option ℕ) (b : Body
     Goes lends input space b (cond q m n)
 cond_made lends input space b true m n h k = h refl
 cond_made lends input space b false m n h k = k refl
-
-pub none_ahead : {u : Option Unread} {front : List ℕ} → Front u front → u ≡ None → front ≡ []
-none_ahead none_taken e = refl
-none_ahead (head_taken t w g f) e = let z : ◌≡◌ {A = ℕ} 0 1 = cc in absurd (omega arith)
 
 module _ (lends : Bool) (input : List ℕ) (b : Body) (ready : Ready lends input b) where
   -- an event has passed, of these bytes
