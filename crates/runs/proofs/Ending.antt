@@ -6,7 +6,6 @@ use Rattle.bunser.specs.declared.text.Unread.{Unread}
 use Rattle.bunser.specs.Outcome.{Outcome, got, bad, placed}
 use Rattle.de.specs.Steps.{Body, gives, text_space, text_outcome, text_puts, text_front, text_by, text_step, coming, unread_comes, due_comes, finishing, step}
 use Rattle.room.specs.Open as room
-use Rattle.room.specs.Open.{Column, Open}
 use Rattle.runs.proofs.Ways.{step_holds}
 
 text_speaks : (lends : Bool) (space : Option ℕ) (u : Unread) (b c : Body) (x : List ℕ) → text_step lends space u b ≡ gives None c x → ⊥

@@ -9,7 +9,7 @@ use Rattle.room.specs.Open as room
 use Rattle.de.specs.declared.event.Event as event
 use Rattle.de.specs.Steps.{Body, gives, stops, step, counted, Apart, text_space}
 use Rattle.de.specs.Calls as calls
-use Rattle.de.specs.Calls.{State, telling, latch_by, here, drawn, drawn_by, drawn_view, Skips, Skip, Skipped, SkipTold, SkipTurn, SkipBy, SkipCall, up_to}
+use Rattle.de.specs.Calls.{here, drawn, Skips}
 use Rattle.runs.specs.Law.{lent_bytes, limits, deeper, stretch}
 use Rattle.runs.proofs.Taking.{levels, Front}
 use Rattle.runs.proofs.Stretching.{Runs, last, onward, stretch_on}
@@ -36,6 +36,7 @@ pub data StretchPassed (lends : Bool) (v : View) (start : ℕ) (down : ℕ) (b t
   something : {more : List Event} → Runs (limits lends) down (levels (lent_bytes lends v) b.opens) more (levels (lent_bytes lends v) t.opens) → t.reader.count ≡ start + length now →
       StretchPassed lends v start down b t taken now more
 
+-- what a skip has passed, ended or refused, and what holds then
 pub data SkipEnd (lends : Bool) (v : View) (start size : ℕ) (taken : List ℕ) (es : List Event) (b : Body) (down n : ℕ) (t : Body) : Result ℕ Refusal → Type 0 where
   done : (more : List Event) (now : List ℕ) {k : ℕ} → Live lends v start size now (es ++ more) t → k ≡ n + length more → StretchPassed lends v start down b t taken now more →
       SkipEnd lends v start size taken es b down n t (Ok k)
