@@ -2,7 +2,7 @@
 use Rattle.std.proofs.Common.{◌≡◌, ℕ, suc, List, [], ◌∷◌, ◌++◌, length, refl, ap, sym, append_assoc, append-nil, pos}
 use Rattle.format.specs.declared.width.Width.{Width}
 use Rattle.format.specs.declared.width.Width.TheVariants.{W8}
-use Rattle.values.specs.Values.{Value, null, array, object, template, Values, no_values, value, Pairs, no_pairs, pair, Rows, no_rows, Cells, no_cells, gap, Key, as_bytes}
+use Rattle.values.specs.Values.{Value, null, array, object, template, Values, no_values, value, Pairs, no_pairs, pair, Rows, no_rows, row as a_row, Cells, no_cells, gap, cell as a_cell, Key, as_bytes}
 use Rattle.values.specs.Values.{value_count, pair_count, row_count, cell_count, encoding, values_encoding, pairs_encoding, rows_encoding, cells_encoding, keys_encoding, text_encoding, key_encoding, count_encoding, Event, array_begin, array_end, map_begin, map_end, key, absent, events, values_events, pairs_events, rows_events, cells_events, Fits, KeyFormed, KeysFormed, Formed, ValuesFormed, PairsFormed, RowsFormed, CellsFormed}
 use Rattle.values.specs.Limits.{Limits}
 use Rattle.room.specs.Open.{start, items, pairs, field, rows, row, cell, filled}

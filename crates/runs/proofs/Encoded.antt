@@ -1,6 +1,6 @@
 -- From values to what may come: where a value may begin, any value may come.
 use Rattle.std.proofs.Common.{◌≡◌, ℕ, zero, suc, ◌+◌, List, [], ◌∷◌, ◌++◌, length, refl, ap, sym, subst₂, append_assoc, append-nil, arith}
-use Rattle.values.specs.Values.{Value, null, yes_value, no_value, integer, real, bytes, text, array, object, template, Values, no_values, value, Pairs, no_pairs, pair, Rows, no_rows, Cells, no_cells, gap, Key}
+use Rattle.values.specs.Values.{Value, null, yes_value, no_value, integer, real, bytes, text, array, object, template, Values, no_values, value, Pairs, no_pairs, pair, Rows, no_rows, row as a_row, Cells, no_cells, gap, cell as a_cell, Key}
 use Rattle.values.specs.Values.{value_count, pair_count, row_count, cell_count, encoding, values_encoding, pairs_encoding, rows_encoding, cells_encoding, keys_encoding, text_encoding, count_encoding, Event, array_end, map_end, events, values_events, pairs_events, rows_events, cells_events, Formed, ValuesFormed, PairsFormed, RowsFormed, CellsFormed}
 use Rattle.values.specs.Limits.{Limits, none, Within, ValuesWithin, PairsWithin, RowsWithin, CellsWithin, key_bytes}
 use Rattle.room.specs.Open.{start, items, pairs, rows, row, filled, depth, keys_held, bytes_held}
