@@ -233,6 +233,7 @@ impl<R: DeRead> Bunser<R> {
     pub fn read_pdu(&mut self) -> Result<Header, Refusal>
         ensures reads { TellsAt (header_read R.DeRead.lends (R.DeRead.view self.old.read)) result (R.DeRead.view self.new.read) }
         ensures bounds { self.new.end ≡ end_of result }
+        ensures far { IfOk result (λ h. h.start + h.length ≤ FARTHEST) }
     {
         self.end = None;
         let header = self.read_header()?;

@@ -1,10 +1,8 @@
 -- How what a read comes to goes into what comes of a body.
-use Rattle.std.proofs.Common.{◌≡◌, ℕ, Bool, true, false, cond, ltb, List, ◌∷◌, Ok, Err, Option, Result, Some, None, IsErrAnd, sym, refl, ap, ◌∙◌, subst, subst₂}
+use Rattle.std.proofs.Common.{◌≡◌, ℕ, Bool, true, false, cond, ltb, List, ◌∷◌, Ok, Err, Result, IsErrAnd, sym, refl, ap, ◌∙◌, subst, subst₂}
 use Rattle.read.specs.Reader.{View, discarded}
-use Rattle.format.specs.declared.refusal.ReadError.{ReadError}
 use Rattle.format.specs.declared.refusal.Refusal.{Refusal}
-use Rattle.bunser.specs.declared.Bunser.{Bunser}
-use Rattle.bunser.specs.Outcome.{Outcome, got, bad, TellsAt, BodyRead}
+use Rattle.bunser.specs.Outcome.{Outcome, got, bad, TellsAt}
 use Rattle.format.specs.declared.refusal.Cause.TheVariants.{NoKeys, Depth}
 use Rattle.bunser.specs.Texts.{placed_count}
 use Rattle.room.specs.Open.{Column, column_bytes, rows, filled, depth, keys_held, bytes_held}
@@ -13,7 +11,7 @@ use Rattle.room.specs.KeyList.{key_list_read, ListTold}
 use Rattle.de.specs.declared.event.Event.TheVariants.{ArrayBegin}
 use Rattle.bunser.proofs.Telling.{ok_err, err_is}
 use Rattle.de.specs.declared.event.Ahead.{Ahead}
-use Rattle.de.specs.Steps.{Body, moved, behind, Coming, comes, halts, passes, reading, refuse, keyless, rows_by, rows_come, template_comes, Apart, Finds}
+use Rattle.de.specs.Steps.{Body, moved, Coming, halts, passes, reading, refuse, keyless, rows_by, rows_come, template_comes, Apart, Finds}
 
 -- a read of the body that gives, and what is done with what it gives
 pub then_finds : {A : Type 0} (m : Outcome Refusal A) (b : Body) (f : A → View → Coming) (a : A) (w : View) (r : Result Ahead Refusal) (c : Body) → TellsAt m (Ok a) w → Finds (f a w) r c → Finds (reading m b f) r c

@@ -134,10 +134,11 @@ drawn_view lends (cause.Length expected count) b = b.reader
 abbrev pub drawn : Bool → Refusal → Body → Body
 drawn lends f b = moved b (drawn_view lends f.cause b)
 
--- a step by which an event passes and no text is kept
-abbrev pub Passes : Bool → Out → Result (Option Event) Refusal → Body → Type 0
-Passes lends (gives e b x) r c = (r ≡ Ok e) × (c ≡ b)
-Passes lends (stops f b x) r c = (r ≡ Err f) × Apart f (drawn lends f b) c
+-- a step by which an event passes, of which nothing is kept: whether one has passed
+abbrev pub PassesOver : Bool → Out → Result Bool Refusal → Body → Type 0
+PassesOver lends (gives (Some e) b x) r c = (r ≡ Ok true) × (c ≡ b)
+PassesOver lends (gives None b x) r c = (r ≡ Ok false) × (c ≡ b)
+PassesOver lends (stops f b x) r c = (r ≡ Err f) × Apart f (drawn lends f b) c
 
 -- events pass until no more is open than at first; so many have passed already
 pub data Skips (lends : Bool) (down : ℕ) : ℕ → Body → Result ℕ Refusal → Body → Type 0 where

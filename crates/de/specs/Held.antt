@@ -1,16 +1,17 @@
 -- What the events of a body hold, as the calls define it.
-use Rattle.std.specs.Prelude.{ℕ, Bool, true, false, cond, List, [], length, None, Ok, Err, Result, nat_lt}
+use Rattle.std.specs.Prelude.{◌≡◌, ℕ, ◌+◌, Bool, true, false, cond, List, [], ◌∷◌, length, Some, None, Ok, Err, Result, nat_lt}
 use Rattle.read.specs.declared.Taken.TheVariants.{Lent, Copied}
 use Rattle.read.specs.Reader.{View}
 use Rattle.format.specs.declared.refusal.ReadError.TheVariants.{Room}
 use Rattle.format.specs.declared.refusal.Refusal.{Refusal}
-use Rattle.bunser.specs.Outcome.{at}
+use Rattle.bunser.specs.declared.Header.{Header}
+use Rattle.bunser.specs.Outcome.{Outcome, got, bad, at}
 use Rattle.bunser.specs.declared.text.Span.{Span}
-use Rattle.room.specs.Open.{Column, lent, copied}
+use Rattle.room.specs.Open.{Column, lent, copied, start}
 use Rattle.room.specs.declared.due.Due.{Due}
 use Rattle.room.specs.declared.due.Due.TheVariants as due
 use Rattle.de.specs.declared.events.Events.{Events}
-use Rattle.de.specs.Steps.{Body}
+use Rattle.de.specs.Steps.{Body, Apart}
 
 abbrev pub body_of : {R : Type 0} → (R → View) → Events R → Body
 body_of view e = record { reader = view e.bunser.read; end = e.bunser.end; opens = e.opens.opens; unread = e.unread; events = e.passed }
@@ -45,3 +46,8 @@ column_shown (copied bs) place space = cond (nat_lt space (length bs)) (Err (at 
 abbrev pub column_front : Column → ℕ → List ℕ
 column_front (lent p n) space = []
 column_front (copied bs) space = cond (nat_lt space (length bs)) [] bs
+
+-- what a header leaves: its body is to come, or it is refused and no end is declared
+abbrev pub HeaderTold : Outcome Refusal Header → Body → Result Header Refusal → Body → Type 0
+HeaderTold (got h v) b r c = (r ≡ Ok h) × (c ≡ record { reader = v; end = Some (h.start + h.length); opens = start ∷ []; unread = None; events = 0 })
+HeaderTold (bad f v) b r c = (r ≡ Err f) × Apart f (record { reader = v; end = None; opens = b.opens; unread = b.unread; events = b.events }) c

@@ -1,5 +1,5 @@
 -- A call by value, what it answers, and what can be seen then.
-use Rattle.std.specs.Prelude.{◌≡◌, ℕ, Bool, List, [], replicate, Some, None, Ok, Err, Option, Result}
+use Rattle.std.specs.Prelude.{◌≡◌, ℕ, Bool, List, [], length, replicate, Some, None, Ok, Err, Option, Result}
 use Rattle.source.specs.Feed.{fronted}
 use Rattle.format.specs.declared.refusal.Refusal.{Refusal}
 use Rattle.de.specs.declared.event.Event.{Event}
@@ -11,6 +11,7 @@ use Rattle.de.specs.declared.entry.Call.{Call}
 use Rattle.de.specs.declared.entry.Call.TheVariants as call
 use Rattle.de.specs.declared.entry.Answer.{Answer}
 use Rattle.de.specs.declared.entry.Answer.TheVariants as answer
+use Rattle.de.specs.declared.entry.Entry.{Entry}
 use Rattle.de.specs.Calls.{State, Meets, open_call, next_call, next_puts, SkipCall, close_call, tally}
 
 -- one call, what it answered, the reader's count then, what the question then tells, and the text buffer then
@@ -59,9 +60,20 @@ MadeBy lends s (call.Next room) a x t = Made (Meets (next_call lends room s)) Ne
 MadeBy lends s call.Skip a x t = Made (SkipCall lends s) SkipAnswer a t × (x ≡ [])
 MadeBy lends s (call.Close e) a x t = Made (Meets (close_call (token 0 e) s)) CloseAnswer a t × (x ≡ [])
 
+-- the same with a text buffer that holds something
+abbrev pub MadeWith : Bool → State → Call → Answer → List ℕ → List ℕ → State → Type 0
+MadeWith lends s call.Open a x y t = Made (Meets (open_call lends s)) OpenAnswer a t × (y ≡ x)
+MadeWith lends s (call.Next room) a x y t = Made (Meets (next_call lends (length x) s)) NextAnswer a t × (y ≡ fronted (next_puts s.latched lends (length x) s) x)
+MadeWith lends s call.Skip a x y t = Made (SkipCall lends s) SkipAnswer a t × (y ≡ x)
+MadeWith lends s (call.Close e) a x y t = Made (Meets (close_call (token 0 e) s)) CloseAnswer a t × (y ≡ x)
+
 -- this moment is that of this call in this state, which becomes that one
 pub record Logged (lends : Bool) (s : State) (m : Moment) (t : State) : Type 0 where
   pub made : MadeBy lends s m.call m.answer m.text t
   pub counts : m.count ≡ t.body.reader.count
   pub told_events : m.events ≡ (tally t).0
   pub told_bytes : m.bytes ≡ (tally t).1
+
+-- an entry of a log
+abbrev pub moment : Entry → Moment
+moment e = record { call = e.call; answer = e.answer; count = e.count; events = e.events; bytes = e.bytes; text = e.text.items }

@@ -43,6 +43,10 @@ pub record Body : Type 0 where
 abbrev pub moved : Body → View → Body
 moved b v = record { reader = v; end = b.end; opens = b.opens; unread = b.unread; events = b.events }
 
+-- this is open then
+abbrev pub opened : Body → List (Open Column) → Body
+opened b o = record { reader = b.reader; end = b.end; opens = o; unread = b.unread; events = b.events }
+
 abbrev pub awaiting : Body → View → Unread → Body
 awaiting b v u = record { reader = v; end = b.end; opens = b.opens; unread = Some u; events = b.events }
 

@@ -1,3 +1,6 @@
+ghost use Rattle.std.specs.Prelude.{◌≡◌};
+ghost use Rattle.de.specs.Rooms.{room_of};
+
 use super::event::Event;
 use super::pdu::{Closed, Extent};
 use bunser::Header;
@@ -13,6 +16,18 @@ pub enum Call {
     Close(Extent),
 }
 
+impl Call {
+    // How much room the text buffer of this call has.
+    pub(crate) fn room(self) -> usize
+        ensures { result ≡ room_of self }
+    {
+        match self {
+            Call::Next(room) => room,
+            _ => 0,
+        }
+    }
+}
+
 /// What a call answered.
 #[derive(Clone, Copy, PartialEq, Eq, Debug)]
 pub enum Answer {
@@ -22,4 +37,18 @@ pub enum Answer {
     Skipped(usize),
     Closed(Closed),
     Refused(Refusal),
+}
+
+/// One call, what it answered, and what can be seen then.
+#[derive(Drop)]
+pub struct Entry {
+    pub call: Call,
+    pub answer: Answer,
+    /// The reader's count.
+    pub count: usize,
+    /// What the question tells.
+    pub events: usize,
+    pub bytes: usize,
+    /// The text buffer, which was zero before the call.
+    pub text: Vec<u8>,
 }

@@ -1,13 +1,15 @@
 //! The events of a body, one after the other.
-ghost use Rattle.std.specs.Prelude.{◌≡◌, Some, None};
+ghost use Rattle.std.specs.Prelude.{◌≡◌, ◌+◌, ◌≤◌, IfOk};
 ghost use Rattle.room.specs.Open.{start, filled, keyed, row_turned, ended};
 ghost use Rattle.de.specs.declared.event.Ahead.TheVariants.{Passed, Text};
 ghost use Rattle.de.specs.Steps.{behind, awaiting, due_comes, item_comes, coming, Finds};
-ghost use Rattle.de.specs.Held.{body_of, unread_body};
+ghost use Rattle.bunser.specs.Reads.{header_read};
+ghost use Rattle.de.specs.Calls.{finished};
+ghost use Rattle.de.specs.Held.{body_of, unread_body, HeaderTold};
 
 use super::event::{Ahead, Event};
-use bunser::Bunser;
 use bunser::text::Unread;
+use bunser::{Bunser, Header};
 use format::refusal::Refusal;
 use read::DeRead;
 use room::due::Due;
@@ -61,5 +63,24 @@ impl<R: DeRead> Events<R> {
     {
         self.unread = Some(text);
         Ahead::Text(text)
+    }
+
+    // The header of a PDU; its one value is to come.
+    pub(crate) fn open(&mut self) -> Result<Header, Refusal>
+        ensures told { HeaderTold (header_read R.DeRead.lends (body_of R.DeRead.view self.old).reader) (body_of R.DeRead.view self.old) result (body_of R.DeRead.view self.new) }
+        ensures bounds { IfOk result (λ h. h.start + h.length ≤ 1152921504606846976) }
+    {
+        let header = self.bunser.read_pdu()?;
+        self.opens.begin();
+        self.unread = None;
+        self.passed = 0;
+        Ok(header)
+    }
+
+    // All events have passed.
+    pub(crate) fn is_finished(&self) -> bool
+        ensures { result ≡ finished (body_of R.DeRead.view self.now) }
+    {
+        self.unread.is_none() && matches!(self.opens.due(), Due::Done)
     }
 }

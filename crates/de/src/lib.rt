@@ -1,12 +1,16 @@
 //! A decoder over any reader: four calls that give a body event by event.
 #![tactic(auto)]
 
+mod array;
+mod calls;
+mod coming;
+pub mod decoder;
 pub mod entry;
 pub mod event;
 pub mod events;
-mod array;
-mod coming;
 mod item;
+mod made;
+pub mod pdu;
+mod skip;
 mod template;
 mod text;
-pub mod pdu;

@@ -2,7 +2,7 @@
 ghost use Rattle.std.specs.Prelude.{◌≡◌, length, Some};
 ghost use Rattle.source.specs.Feed.{fronted};
 ghost use Rattle.room.specs.Open.{column};
-ghost use Rattle.de.specs.Steps.{behind, text_event, behind_text, text_step, column_step, step, puts, Says};
+ghost use Rattle.de.specs.Steps.{opened, text_event, behind_text, text_step, column_step, step, puts, Says};
 ghost use Rattle.de.specs.Held.{body_of, column_shown, column_front};
 
 use super::event::{Ahead, Event};
@@ -25,17 +25,14 @@ fn event_of(kind: TextKind, span: Span) -> Event
 }
 
 impl<R: DeRead> Events<R> {
-    // A text has been read: its event passes, and a key is followed by its value.
-    fn pass_text(&mut self, text: Unread, span: Span) -> Event
-        ensures gives { result ≡ text_event text.kind span }
-        ensures passes { body_of R.DeRead.view self.new ≡ behind (body_of R.DeRead.view self.old) (body_of R.DeRead.view self.old).reader (behind_text text.kind (body_of R.DeRead.view self.old).opens) }
+    // A text has come: a value, or a key, which is followed by its value.
+    pub(crate) fn move_on(&mut self, kind: TextKind)
+        ensures { body_of R.DeRead.view self.new ≡ opened (body_of R.DeRead.view self.old) (behind_text kind (body_of R.DeRead.view self.old).opens) }
     {
-        match text.kind {
+        match kind {
             TextKind::Bytes | TextKind::Text => self.opens.fill(),
             TextKind::Key => self.opens.key(),
         }
-        self.pass();
-        event_of(text.kind, span)
     }
 
     #[tactic(auto, unfolding(crate::specs::Steps::text_step))]
@@ -49,7 +46,9 @@ impl<R: DeRead> Events<R> {
             taken,
             len: text.len,
         };
-        Ok(Some(self.pass_text(text, span)))
+        self.move_on(text.kind);
+        self.pass();
+        Ok(Some(event_of(text.kind, span)))
     }
 
     // A key that was copied goes to the front of the buffer.

@@ -10,9 +10,11 @@ use Rattle.format.specs.declared.refusal.ReadError.TheVariants as error
 use Rattle.values.specs.Values as value
 use Rattle.de.specs.declared.event.Event.{Event}
 use Rattle.de.specs.Shown.{shown}
-use Rattle.de.specs.Steps.{Body, gives, stops, counted, step}
+use Rattle.de.specs.Steps.{Body, gives, stops, counted, text_space, step}
 use Rattle.runs.specs.Law.{limits, hands_out}
-use Rattle.runs.proofs.Taking.{levels, Fit, Takes, Front, Waits}
+use Rattle.room.specs.Open.{bytes_held}
+use Rattle.values.specs.Limits.{RoomForKeyBytes}
+use Rattle.runs.proofs.Taking.{levels, Fit, Takes, Front, Waits, names_long}
 
 -- these bytes were taken of a reader
 pub record Took (lends : Bool) (v w : View) (bs : List ℕ) : Type 0 where
@@ -33,6 +35,8 @@ pub record Ready (lends : Bool) (input : List ℕ) (b : Body) : Type 0 where
   pub solid : Solid lends input b.reader
   pub fit : Fit lends b.opens
   pub waits : Waits b.unread (levels input b.opens)
+  -- the key bytes of the open templates were admitted
+  pub held : RoomForKeyBytes (limits lends) (bytes_held names_long (levels input b.opens))
 
 -- an event has passed
 pub record Stepped (lends : Bool) (input : List ℕ) (b : Body) (e : Event) (c : Body) (x : List ℕ) : Type 0 where
@@ -54,8 +58,12 @@ pub record Waiting (lends : Bool) (input : List ℕ) (b c : Body) : Type 0 where
   pub front : (front : List ℕ) → Front b.unread front → Front c.unread (front ++ bytes)
   pub ready : Ready lends input c
 
+-- the refusal is for good; or it is for want of room in the buffer of a copying reader, and a text is awaited
+abbrev pub ForGoodOrWaits : Bool → List ℕ → Option ℕ → Refusal → Body → Body → Type 0
+ForGoodOrWaits lends input space f b c = (latching f.cause ≡ true) ⊎ ((f.cause ≡ cause.Read error.Room) × (text_space lends space ≡ None → ⊥) × Waiting lends input b c)
+
 -- a refusal
-pub record Stopped (lends : Bool) (input : List ℕ) (b : Body) (f : Refusal) (c : Body) : Type 0 where
+pub record Stopped (lends : Bool) (input : List ℕ) (space : Option ℕ) (b : Body) (f : Refusal) (c : Body) : Type 0 where
   pub after : b.reader.count ≤ f.place
   pub end : c.end ≡ b.end
   pub opens : c.opens ≡ b.opens
@@ -63,7 +71,7 @@ pub record Stopped (lends : Bool) (input : List ℕ) (b : Body) (f : Refusal) (c
   pub inside : past b.end b.reader.count ≡ false → past b.end c.reader.count ≡ false
   -- the value has not ended
   pub more : b.opens ≡ [] → ⊥
-  pub kind : (latching f.cause ≡ true) ⊎ ((f.cause ≡ cause.Read error.Room) × Waiting lends input b c)
+  pub kind : ForGoodOrWaits lends input space f b c
 
 -- so many bytes stay before the declared end and the reader's stop
 pub record Clear (b : Body) (n : ℕ) : Type 0 where

@@ -1,5 +1,4 @@
-use Rattle.std.proofs.Common.{ap, ◌∙◌, sym, subst, subst₂, Ok}
-use Rattle.read.specs.Reader.{discarded}
+use Rattle.std.proofs.Common.{ap, ◌∙◌, sym, subst₂, Ok}
 use Rattle.room.specs.Open.{depth, keys_held, bytes_held, column_bytes}
 use Rattle.room.specs.KeyList.{key_list_read, ListTold}
 use Rattle.de.specs.Held.{body_of}

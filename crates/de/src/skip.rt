@@ -1,0 +1,57 @@
+//! Events that are passed over.
+ghost use Rattle.std.specs.Prelude.{◌≡◌, Some, None};
+ghost use Rattle.de.specs.Steps.{text_step, step};
+ghost use Rattle.de.specs.Calls.{PassesOver, Skip};
+ghost use Rattle.de.specs.Held.{body_of};
+
+use super::event::Ahead;
+use super::events::Events;
+use bunser::placed;
+use bunser::text::{TextKind, Unread};
+use format::refusal::Refusal;
+use read::DeRead;
+
+impl<R: DeRead> Events<R> {
+    // A text that is awaited passes over, of which nothing is kept.
+    fn skip_text(&mut self, text: Unread) -> Result<bool, Refusal>
+        requires { (body_of R.DeRead.view self.old).unread ≡ Some text }
+        ensures { PassesOver R.DeRead.lends (text_step R.DeRead.lends None text (body_of R.DeRead.view self.old)) result (body_of R.DeRead.view self.new) }
+    {
+        let place = self.bunser.read_count();
+        placed(self.bunser.pass_text(text), place)?;
+        self.move_on(text.kind);
+        self.pass();
+        Ok(true)
+    }
+
+    // The next event passes over. False where there is none.
+    fn skip_one(&mut self) -> Result<bool, Refusal>
+        ensures { PassesOver R.DeRead.lends (step R.DeRead.lends None (body_of R.DeRead.view self.old)) result (body_of R.DeRead.view self.new) }
+    {
+        match self.coming()? {
+            Ahead::Nothing => Ok(false),
+            Ahead::Passed(_) => Ok(true),
+            Ahead::Text(text) => self.skip_text(text),
+            Ahead::Column => {
+                self.opens.turn();
+                self.pass();
+                Ok(true)
+            }
+        }
+    }
+
+    /// Passes events over until no more is open than now, and tells how many.
+    pub(crate) fn skip(&mut self) -> Result<usize, Refusal>
+        ensures { Skip R.DeRead.lends (body_of R.DeRead.view self.old) result (body_of R.DeRead.view self.new) }
+    {
+        let down = self.opens.nesting();
+        let mut passed = 0usize;
+        while self.skip_one()? {
+            passed = passed.saturating_add(1);
+            if self.opens.nesting() <= down {
+                return Ok(passed);
+            }
+        }
+        Ok(passed)
+    }
+}
