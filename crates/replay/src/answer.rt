@@ -36,7 +36,11 @@ impl fmt::Display for Answer<'_> {
             Answer::Done => f.write_str("done"),
             Answer::Skipped(passed) => write!(f, "skipped {passed}"),
             Answer::Closed(closed) => {
-                write!(f, "closed events={} length={}", closed.events, closed.length)
+                write!(
+                    f,
+                    "closed events={} length={}",
+                    closed.events, closed.length
+                )
             }
             Answer::NoToken => f.write_str("no token"),
             Answer::Tally(events, bytes) => write!(f, "events={events} bytes={bytes}"),

@@ -42,7 +42,12 @@ pub struct Given<'a> {
 
 impl Given<'_> {
     // Bytes under this word, and where they lie.
-    fn text<W: fmt::Write>(&self, f: &mut fmt::Formatter<W>, word: &str, taken: Taken) -> fmt::Result {
+    fn text<W: fmt::Write>(
+        &self,
+        f: &mut fmt::Formatter<W>,
+        word: &str,
+        taken: Taken,
+    ) -> fmt::Result {
         let bytes = Hex(self.bytes);
         let place = Place(taken);
         write!(f, "{word} {bytes} {place}")

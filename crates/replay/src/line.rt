@@ -51,4 +51,3 @@ impl Line {
         Ok(line)
     }
 }
-

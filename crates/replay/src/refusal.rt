@@ -28,7 +28,9 @@ impl fmt::Display for Kept {
     fn fmt<W: fmt::Write>(&self, f: &mut fmt::Formatter<W>) -> fmt::Result {
         match self.0 {
             Cause::Read(ReadError::Source(fault)) => write!(f, "code={}", fault.code()),
-            Cause::Read(ReadError::Magic([a, b])) => write!(f, "magic={a:02x}{b:02x}"),
+            Cause::Read(ReadError::Magic(bytes)) => {
+                write!(f, "magic={:04x}", u16::from_be_bytes(bytes))
+            }
             Cause::Read(ReadError::Byte(kind, byte)) => {
                 let kind = word_of(kind);
                 write!(f, "kind={kind} byte={byte:02x}")

@@ -47,7 +47,9 @@ fn call<R: DeRead + Drop>(
 
 impl<'a> Scripts<'a> {
     pub fn new(text: &'a str) -> Scripts<'a> {
-        Scripts { lines: text.lines() }
+        Scripts {
+            lines: text.lines(),
+        }
     }
 
     // The calls of one script, up to its end.

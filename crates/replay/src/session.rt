@@ -1,13 +1,14 @@
 //! A decoder on which the calls of one script are made.
-ghost use Rattle.std.specs.Prelude.{IsSome};
+ghost use Rattle.std.specs.Prelude.{IsSome, OnErr};
 ghost use Rattle.de.specs.Decoding.{state_of};
 
 use super::answer::Answer;
 use super::event::{Given, Hex};
 use super::line::Token;
 use de::decoder::Decoder;
-use de::event::Event;
+use de::event::{Event, Refused};
 use de::pdu::PduInfo;
+use format::refusal::Refusal;
 use read::DeRead;
 use read::slice::SliceRead;
 use std::alloc::{AllocError, AllocFailed, Global};
@@ -36,11 +37,11 @@ impl<'i, R: DeRead + Drop> Session<'i, R> {
         }
     }
 
-    // The answer of a call that was refused.
-    fn told(&self) -> Answer<'static>
+    // The refusal of the call that was refused.
+    fn told(&self) -> Refusal
         requires { IsSome (state_of R.DeRead.view self.now.decoder).refused }
     {
-        Answer::Refused(self.decoder.refusal().unwrap())
+        self.decoder.refusal().unwrap()
     }
 
     // Keeps a token until it is spent. Where memory is wanting it is spent at once.
@@ -61,7 +62,7 @@ impl<'i, R: DeRead + Drop> Session<'i, R> {
                 self.keep(info)?;
                 Ok(Answer::Opened(header))
             }
-            Err(_) => Ok(self.told()),
+            Err(_) => Ok(Answer::Refused(self.told())),
         }
     }
 
@@ -79,22 +80,41 @@ impl<'i, R: DeRead + Drop> Session<'i, R> {
         }
     }
 
-    /// Calls `next`, and prints what it answers and what the text buffer has then.
+    // What `next` has answered.
+    fn stepped<'a>(&'a self, step: Result<Option<Event>, Refused>, text: &'a [u8]) -> Answer<'a>
+        requires { OnErr step (IsSome (state_of R.DeRead.view self.now.decoder).refused) }
+    {
+        match step {
+            Ok(Some(event)) => self.given(event, text),
+            Ok(None) => Answer::Done,
+            Err(_) => Answer::Refused(self.told()),
+        }
+    }
+
+    // Prints what `next` has answered, and what the text buffer has then.
+    fn print_step<'a>(
+        &'a self,
+        rt: &impl Print,
+        step: Result<Option<Event>, Refused>,
+        text: &'a [u8],
+    ) -> io::Result<()>
+        requires { OnErr step (IsSome (state_of R.DeRead.view self.now.decoder).refused) }
+    {
+        let answer = self.stepped(step, text);
+        println!(rt; "{answer} | {}", Hex(text))
+    }
+
+    /// Calls `next` with a text buffer of so many bytes.
     pub fn next(&mut self, rt: &(impl Print + AllocGlobal), room: usize) -> io::Result<()> {
         let mut text = vec![in rt.alloc(); BLANK; room]?;
-        let answer = match self.decoder.next(&mut text) {
-            Ok(Some(event)) => self.given(event, &text),
-            Ok(None) => Answer::Done,
-            Err(_) => self.told(),
-        };
-        let text = Hex(&text);
-        println!(rt; "{answer} | {text}")
+        let step = self.decoder.next(&mut text);
+        self.print_step(rt, step, &text)
     }
 
     pub fn skip(&mut self) -> Answer<'static> {
         match self.decoder.skip() {
             Ok(passed) => Answer::Skipped(passed),
-            Err(_) => self.told(),
+            Err(_) => Answer::Refused(self.told()),
         }
     }
 
@@ -120,7 +140,7 @@ impl<'i, R: DeRead + Drop> Session<'i, R> {
         };
         match self.decoder.close(info) {
             Ok(closed) => Answer::Closed(closed),
-            Err(_) => self.told(),
+            Err(_) => Answer::Refused(self.told()),
         }
     }
 
