@@ -23,15 +23,35 @@ impl Token {
     }
 }
 
-/// A line of a script behind the first.
+/// A call of a decoder.
 #[derive(Clone, Copy, PartialEq, Eq, Debug)]
-pub enum Line {
+pub enum Call {
     Open,
     /// With a text buffer of so many bytes.
     Next(usize),
     Skip,
     Close(Token),
+    /// How many events have passed, and how many body bytes were taken.
     Asked,
+}
+
+impl Call {
+    fn parse(word: &str, fields: &mut Fields<'_>) -> Result<Call, LineError> {
+        match word {
+            "open" => Ok(Call::Open),
+            "next" => Ok(Call::Next(fields.number()?)),
+            "skip" => Ok(Call::Skip),
+            "close" => Ok(Call::Close(Token::parse(fields)?)),
+            "asked" => Ok(Call::Asked),
+            _ => Err(LineError::Unknown),
+        }
+    }
+}
+
+/// A line of a script behind the first.
+#[derive(Clone, Copy, PartialEq, Eq, Debug)]
+pub enum Line {
+    Call(Call),
     End,
 }
 
@@ -39,13 +59,8 @@ impl Line {
     pub fn parse(text: &str) -> Result<Line, LineError> {
         let mut fields = Fields::new(text);
         let line = match fields.word()? {
-            "open" => Line::Open,
-            "next" => Line::Next(fields.number()?),
-            "skip" => Line::Skip,
-            "close" => Line::Close(Token::parse(&mut fields)?),
-            "asked" => Line::Asked,
             "end" => Line::End,
-            _ => return Err(LineError::Unknown),
+            word => Line::Call(Call::parse(word, &mut fields)?),
         };
         fields.end()?;
         Ok(line)

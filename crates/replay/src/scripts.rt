@@ -1,7 +1,7 @@
 //! Scripts, one after the other.
 use super::answer::Answer;
 use super::fields::LineError;
-use super::line::Line;
+use super::line::{Call, Line};
 use super::reader::Reader;
 use super::session::Session;
 use anyhow::{Result, anyhow};
@@ -12,7 +12,7 @@ use read::slice::SliceRead;
 use source::chain::Chain;
 use std::str::Lines;
 
-/// The lines that are still to be read.
+/// The lines that are still to be read, of one script after the other.
 #[derive(Drop)]
 pub struct Scripts<'a> {
     lines: Lines<'a>,
@@ -27,19 +27,18 @@ fn unknown(rt: &impl Print, line: &str, error: LineError) -> Result<()> {
     Ok(())
 }
 
-// Makes the call of one line, and prints what it answers.
-fn call<R: DeRead + Drop>(
+// Makes one call, and prints what it answers.
+fn answer<R: DeRead + Drop>(
     rt: &(impl Print + AllocGlobal),
     session: &mut Session<'_, R>,
-    line: Line,
+    call: Call,
 ) -> Result<()> {
-    let answer = match line {
-        Line::Open => session.open()?,
-        Line::Next(room) => return Ok(session.next(rt, room)?),
-        Line::Skip => session.skip(),
-        Line::Close(token) => session.close(token),
-        Line::Asked => session.asked(),
-        Line::End => return Ok(()),
+    let answer = match call {
+        Call::Open => session.open()?,
+        Call::Next(room) => return Ok(session.next(rt, room)?),
+        Call::Skip => session.skip(),
+        Call::Close(token) => session.close(token),
+        Call::Asked => session.asked(),
     };
     println!(rt; "{answer}")?;
     Ok(())
@@ -61,7 +60,7 @@ impl<'a> Scripts<'a> {
         for line in &mut self.lines {
             match Line::parse(line) {
                 Ok(Line::End) => break,
-                Ok(parsed) => call(rt, session, parsed)?,
+                Ok(Line::Call(call)) => answer(rt, session, call)?,
                 Err(error) => unknown(rt, line, error)?,
             }
         }
