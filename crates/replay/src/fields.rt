@@ -54,14 +54,11 @@ impl<'a> Fields<'a> {
 
     /// Bytes in hexadecimal digits, or `-` for none.
     pub fn bytes(&mut self, alloc: Global) -> Result<Vec<u8>, LineError> {
-        let word = self.word()?;
-        if word == "-" {
-            return Ok(Vec::new(alloc));
+        match self.word()? {
+            "-" => Ok(Vec::new(alloc)),
+            "" => Err(LineError::Unknown),
+            digits => Ok(hex::decode(alloc, digits)?),
         }
-        if word.is_empty() {
-            return Err(LineError::Unknown);
-        }
-        Ok(hex::decode(alloc, word)?)
     }
 
     /// No field is left.

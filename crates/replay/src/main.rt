@@ -21,10 +21,10 @@ mod scripts;
 mod session;
 
 use scripts::Scripts;
-use std::io;
+use std::io::{BufRead, BufReader};
 
 fn main(rt: HostRuntime) -> anyhow::Result<()> {
-    let text = io::read_to_string(rt.alloc(), rt.reader())?;
-    let mut scripts = Scripts::new(text.as_str());
+    let input = BufReader::new(rt.alloc(), rt.reader())?;
+    let mut scripts = Scripts::new(input.lines(rt.alloc()));
     scripts.play(&rt)
 }

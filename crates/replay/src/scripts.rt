@@ -10,12 +10,12 @@ use read::fence::Fence;
 use read::io::IoRead;
 use read::slice::SliceRead;
 use source::chain::Chain;
-use std::str::Lines;
+use std::io::{BufRead, Lines};
 
 /// The lines that are still to be read, of one script after the other.
 #[derive(Drop)]
-pub struct Scripts<'a> {
-    lines: Lines<'a>,
+pub struct Scripts<B: BufRead + Drop> {
+    lines: Lines<B>,
 }
 
 // A line that is none of those of a script; or there was no memory for it.
@@ -44,11 +44,9 @@ fn answer<R: DeRead + Drop>(
     Ok(())
 }
 
-impl<'a> Scripts<'a> {
-    pub fn new(text: &'a str) -> Scripts<'a> {
-        Scripts {
-            lines: text.lines(),
-        }
+impl<B: BufRead + Drop> Scripts<B> {
+    pub fn new(lines: Lines<B>) -> Scripts<B> {
+        Scripts { lines }
     }
 
     // The calls of one script, up to its end.
@@ -58,10 +56,11 @@ impl<'a> Scripts<'a> {
         session: &mut Session<'_, R>,
     ) -> Result<()> {
         for line in &mut self.lines {
-            match Line::parse(line) {
+            let line = line?;
+            match Line::parse(&line) {
                 Ok(Line::End) => break,
                 Ok(Line::Call(call)) => answer(rt, session, call)?,
-                Err(error) => unknown(rt, line, error)?,
+                Err(error) => unknown(rt, &line, error)?,
             }
         }
         Ok(())
@@ -115,7 +114,7 @@ impl<'a> Scripts<'a> {
             let Some(line) = self.lines.next() else {
                 break;
             };
-            self.begin(rt, line)?;
+            self.begin(rt, &line?)?;
         }
         Ok(())
     }
