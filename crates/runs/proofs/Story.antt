@@ -89,9 +89,8 @@ truth {lends} {v} {h} {s} y m {r} latched counts tells = record {
   some = let (w, formed, rest, begins) = reached.some in (w, formed, (rest, begins ∙ ap (λ l. l ++ rest) (sym bytes)));
   counted = tells.events ∙ y.passing.counts;
   few = let paid = reached.paid in omega arith;
-  told_bytes = rw told (let after = y.after in let fits = y.passing.fits in omega arith);
-  exactly = told ∙ ap (λ n. min n (y.start + y.size) - y.start) (place s.latched ∙ ap (λ o. taken_to o m.count) latched);
-  at_most = rw told (omega arith);
+  reach = rw told (let after = y.after in let fits = y.passing.fits in omega arith);
+  told_bytes = told ∙ ap (λ n. min n (y.start + y.size) - y.start) (place s.latched ∙ ap (λ o. taken_to o m.count) latched);
 }
   where
     reached : Reached lends y.taken y.es (levels (lent_bytes lends v) s.body.opens)
