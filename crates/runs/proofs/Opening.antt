@@ -28,10 +28,10 @@ use Rattle.runs.proofs.Moments.{phase_last, drawn_of, latched_first, latch_none,
 use Rattle.runs.proofs.Turns.{Untried, again, out_of_turn, untried_free, TakenUp, untried, tried, known_of}
 use Rattle.runs.proofs.Story.{goes_on, Stands, in_pdu, behind_it, off_it, Story, story_still, Untouched, untouched_on, Kept, pdu_told, Tells, quiet}
 
-solid_first : {lends : Bool} {v : View} → Sound lends v → Solid lends (lent_bytes lends v) v
-solid_first {v = v} s = record { octets = s.octets; kept_all = s.kept_all; whole = ap (λ b. lent_bytes b v) }
+solid_first : {lends : Bool} {v : View} → Sound lends v → Solid lends (lent_bytes v) v
+solid_first s = record { octets = s.octets; kept_all = s.kept_all; whole = λ e. refl }
 
-solid_drawn : {lends : Bool} {v w : View} → Sound lends v → Drawn lends v w → Solid lends (lent_bytes lends v) w
+solid_drawn : {lends : Bool} {v w : View} → Sound lends v → Drawn lends v w → Solid lends (lent_bytes v) w
 solid_drawn s d = solid_on d.took (solid_first s)
 
 -- a header stands before the reader where it stands in the bytes that were there at first

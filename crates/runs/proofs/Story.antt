@@ -93,7 +93,7 @@ truth {lends} {v} {h} {s} y m {r} latched counts tells = record {
   told_bytes = told ∙ ap (λ n. min n (y.start + y.size) - y.start) (place s.latched ∙ ap (λ o. taken_to o m.count) latched);
 }
   where
-    reached : Reached lends y.taken y.es (levels (lent_bytes lends v) s.body.opens)
+    reached : Reached lends y.taken y.es (levels (lent_bytes v) s.body.opens)
     reached = y.passing.reached
 
     bytes : take (y.start + length y.taken - y.start) (from v y.start) ≡ y.taken

@@ -10,6 +10,10 @@ use Rattle.values.specs.Values.{Value, encoding, Event, events, Formed, count_en
 use Rattle.values.specs.Limits.{Limits, Within, lending, copying}
 use Rattle.bunser.specs.declared.Header.{Header}
 use Rattle.de.specs.declared.pdu.Extent.{Extent}
+use Rattle.read.specs.declared.Taken.{Taken}
+use Rattle.read.specs.declared.Taken.TheVariants.{Lent, Copied}
+use Rattle.de.specs.declared.event.Event.{Event as GivenEvent}
+use Rattle.de.specs.declared.event.Event.TheVariants as given
 use Rattle.de.specs.declared.entry.Call.{Call}
 use Rattle.de.specs.declared.entry.Call.TheVariants as call
 use Rattle.de.specs.declared.entry.Answer.{Answer}
@@ -24,10 +28,9 @@ Begins xs ys = (rest : List _) × (ys ≡ xs ++ rest)
 abbrev pub from : View → ℕ → List ℕ
 from v n = drop (n - v.count) v.coming
 
--- what a reader that lends was given and will be: the places that it hands out lie there
-abbrev pub lent_bytes : Bool → View → List ℕ
-lent_bytes true v = v.kept ++ v.coming
-lent_bytes false v = []
+-- what a reader was given and will be: the places that one hands out that lends lie there
+abbrev pub lent_bytes : View → List ℕ
+lent_bytes v = v.kept ++ v.coming
 
 -- ---- what is open after some moments, and what was refused for good
 
@@ -134,6 +137,20 @@ abbrev pub Stretched : List Event → Type 0
 Stretched [] = Unit {0}
 Stretched (e ∷ es) = (behind : List Event) → stretch 0 (e ∷ (es ++ behind)) ≡ length (e ∷ es)
 
+-- bytes are a part of the input over a reader that lends, and of the text buffer over one that copies
+abbrev pub PartOf : Bool → Taken → Type 0
+PartOf true (Lent p) = Unit {0}
+PartOf true Copied = ⊥
+PartOf false (Lent p) = ⊥
+PartOf false Copied = Unit {0}
+
+-- such is the part that an event hands out, if it hands out one
+abbrev pub HandedOut : Bool → GivenEvent → Type 0
+HandedOut lends (given.Key s) = PartOf lends s.taken
+HandedOut lends (given.Bytes s) = PartOf lends s.taken
+HandedOut lends (given.Text s) = PartOf lends s.taken
+HandedOut lends e = Unit {0}
+
 -- What a call answered agrees with these events having passed at it. The last event that has passed was at the count c before the
 -- call, and is at the count d after it.
 abbrev pub RefusedAgrees : Call → Refusal → List Event → ℕ → ℕ → Type 0
@@ -145,7 +162,7 @@ RefusedAgrees (call.Close e) f more c d = (more ≡ []) × (d ≡ c)
 
 abbrev pub Agrees : Bool → View → Moment → Answer → List Event → ℕ → ℕ → Type 0
 Agrees lends v m (answer.Opened h) more c d = ⊥
-Agrees lends v m (answer.Gave e) more c d = (more ≡ shown (lent_bytes lends v) m.text e ∷ []) × (d ≡ m.count)
+Agrees lends v m (answer.Gave e) more c d = HandedOut lends e × (more ≡ shown (lent_bytes v) m.text e ∷ []) × (d ≡ m.count)
 Agrees lends v m answer.Done more c d = (more ≡ []) × (d ≡ c)
 Agrees lends v m (answer.Skipped n) more c d = (length more ≡ n) × Stretched more × (d ≡ cond (n == 0) c m.count)
 Agrees lends v m (answer.Closed k) more c d = (more ≡ []) × (d ≡ c)
