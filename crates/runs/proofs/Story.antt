@@ -11,7 +11,7 @@ use Rattle.de.specs.declared.entry.Answer.TheVariants as answer
 use Rattle.de.specs.Steps.{Body}
 use Rattle.de.specs.Calls.{State, fresh, telling, up_to, tally}
 use Rattle.de.specs.Made.{Moment}
-use Rattle.runs.specs.Law.{lent_bytes, from, Phase, none_yet, running, over, left, phase, phase_after, open_pdu, for_good, Agrees, RefusedAgrees, Passed, moves, taken_to, Truthful, Idle, Whole}
+use Rattle.runs.specs.Law.{all_bytes, from, Phase, none_yet, running, over, left, phase, phase_after, open_pdu, for_good, Agrees, RefusedAgrees, Passed, moves, taken_to, Truthful, Idle, Whole}
 use Rattle.runs.proofs.Taking.{levels}
 use Rattle.runs.proofs.Reached.{Reached}
 use Rattle.runs.proofs.Bodies.{Drawn, Passing, bytes_taken, Live, Stuck}
@@ -93,7 +93,7 @@ truth {lends} {v} {h} {s} y m {r} latched counts tells = record {
   told_bytes = told ∙ ap (λ n. min n (y.start + y.size) - y.start) (place s.latched ∙ ap (λ o. taken_to o m.count) latched);
 }
   where
-    reached : Reached lends y.taken y.es (levels (lent_bytes v) s.body.opens)
+    reached : Reached lends y.taken y.es (levels (all_bytes v) s.body.opens)
     reached = y.passing.reached
 
     bytes : take (y.start + length y.taken - y.start) (from v y.start) ≡ y.taken

@@ -28,9 +28,9 @@ Begins xs ys = (rest : List _) × (ys ≡ xs ++ rest)
 abbrev pub from : View → ℕ → List ℕ
 from v n = drop (n - v.count) v.coming
 
--- what a reader was given and will be: the places that one hands out that lends lie there
-abbrev pub lent_bytes : View → List ℕ
-lent_bytes v = v.kept ++ v.coming
+-- what was kept and what comes: of a reader that lends, all bytes, in which places lie
+abbrev pub all_bytes : View → List ℕ
+all_bytes v = v.kept ++ v.coming
 
 -- ---- what is open after some moments, and what was refused for good
 
@@ -162,7 +162,7 @@ RefusedAgrees (call.Close e) f more c d = (more ≡ []) × (d ≡ c)
 
 abbrev pub Agrees : Bool → View → Moment → Answer → List Event → ℕ → ℕ → Type 0
 Agrees lends v m (answer.Opened h) more c d = ⊥
-Agrees lends v m (answer.Gave e) more c d = HandedOut lends e × (more ≡ shown (lent_bytes v) m.text e ∷ []) × (d ≡ m.count)
+Agrees lends v m (answer.Gave e) more c d = HandedOut lends e × (more ≡ shown (all_bytes v) m.text e ∷ []) × (d ≡ m.count)
 Agrees lends v m answer.Done more c d = (more ≡ []) × (d ≡ c)
 Agrees lends v m (answer.Skipped n) more c d = (length more ≡ n) × Stretched more × (d ≡ cond (n == 0) c m.count)
 Agrees lends v m (answer.Closed k) more c d = (more ≡ []) × (d ≡ c)
