@@ -32,11 +32,11 @@ use Rattle.runs.proofs.TextReads.{TextRead, TextRefused, text_reads}
 -- ---- the column of a key
 
 -- what a reader that lends has at its count is what comes
-pub all_bytes : (input : List ℕ) (v : View) (n : ℕ) → Solid true input v → take n (drop v.count input) ≡ take n v.coming
-all_bytes input v n s = ap (λ l. take n (drop v.count l)) (s.whole refl) ∙ ap (take n) (drop_at v.kept v.coming v.count s.kept_all)
+pub lent_bytes : (input : List ℕ) (v : View) (n : ℕ) → Solid true input v → take n (drop v.count input) ≡ take n v.coming
+lent_bytes input v n s = ap (λ l. take n (drop v.count l)) (s.whole refl) ∙ ap (take n) (drop_at v.kept v.coming v.count s.kept_all)
 
 named_column : (lends : Bool) (input : List ℕ) (v : View) (n : ℕ) → Solid lends input v → named input (column_of lends n v) ≡ take n v.coming
-named_column true input v n s = all_bytes input v n s
+named_column true input v n s = lent_bytes input v n s
 named_column false input v n s = refl
 
 column_lies : (lends : Bool) (v : View) (n : ℕ) → Lies lends (column_of lends n v)
