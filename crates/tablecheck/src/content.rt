@@ -24,10 +24,10 @@ pub enum Content {
 }
 
 impl Content {
-    // What the first event of a body begins. A list is a table until it has a member that is no row of it.
-    fn begun(alloc: Global, event: Event) -> Content {
+    // What the first event of a body begins.
+    fn begun(event: Event) -> Content {
         match event {
-            Event::ArrayBegin => Content::Table(Table::new(alloc)),
+            Event::ArrayBegin => Content::List(0),
             Event::MapBegin => Content::Fields(0),
             Event::Int(_, value) => Content::Whole(value),
             Event::Real(_) => Content::Real,
@@ -40,19 +40,20 @@ impl Content {
         }
     }
 
-    // An event directly in the outermost container.
-    fn note_member(&mut self, event: Event) {
+    // An event directly in the outermost container. A list whose first value has fields is a table
+    // until it has a value that is no row of it.
+    fn note_member(&mut self, alloc: Global, event: Event) {
         match self {
             Content::Table(table) => match event {
-                Event::MapBegin => table.begin_row(),
                 Event::ArrayEnd => {}
+                Event::MapBegin => table.begin_row(),
                 _ => *self = Content::List(table.rows().saturating_add(1)),
             },
-            Content::List(values) => {
-                if event != Event::ArrayEnd {
-                    *values = values.saturating_add(1);
-                }
-            }
+            Content::List(values) => match event {
+                Event::ArrayEnd => {}
+                Event::MapBegin if *values == 0 => *self = Content::Table(Table::new(alloc)),
+                _ => *values = values.saturating_add(1),
+            },
             Content::Fields(fields) => {
                 if let Event::Key(_) = event {
                     *fields = fields.saturating_add(1);
@@ -85,8 +86,9 @@ impl fmt::Display for Content {
             Content::False => f.write_str("false"),
             Content::Null => f.write_str("null"),
             Content::Table(table) => table.fmt(f),
-            Content::List(n) => write!(f, "a list of {}, no table", Count(*n, "value")),
-            Content::Fields(n) => write!(f, "{}, no table", Count(*n, "named value")),
+            Content::List(0) => f.write_str("an empty list"),
+            Content::List(n) => write!(f, "a list of {}, not a table", Count(*n, "value")),
+            Content::Fields(n) => write!(f, "{}, not a table", Count(*n, "named value")),
         }
     }
 }
@@ -121,8 +123,8 @@ impl Survey {
     /// The next event, with the bytes of a key.
     pub fn note(&mut self, event: Event, key: &[u8]) -> Result<(), AllocError> {
         match self.depth {
-            0 => self.content = Content::begun(self.alloc, event),
-            1 => self.content.note_member(event),
+            0 => self.content = Content::begun(event),
+            1 => self.content.note_member(self.alloc, event),
             2 => self.content.note_inner(event, key)?,
             _ => {}
         }

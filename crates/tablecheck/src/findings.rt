@@ -21,6 +21,14 @@ fn is_room(refusal: &Refusal) -> bool {
     refusal.cause == Cause::Read(ReadError::Room)
 }
 
+// The bytes of a key, and none of another event.
+fn key_of<'r>(event: Event, file: &'r [u8], text: &'r [u8]) -> &'r [u8] {
+    match event {
+        Event::Key(span) => part(span, file, text).unwrap_or(&[]),
+        _ => &[],
+    }
+}
+
 /// A file that is read by a decoder, with room for its texts.
 #[derive(Drop)]
 struct Reading<'a, R: DeRead> {
@@ -44,11 +52,7 @@ impl<'a, R: DeRead + Drop> Reading<'a, R> {
         for _ in 0..u64::MAX {
             match self.decoder.next(&mut self.text) {
                 Ok(Some(event)) => {
-                    let key = match event {
-                        Event::Key(span) => part(span, self.file, &self.text),
-                        _ => None,
-                    };
-                    survey.note(event, key.unwrap_or(&[]))?;
+                    survey.note(event, key_of(event, self.file, &self.text))?;
                 }
                 Err(_) if self.passes_long_text() => {}
                 Ok(None) | Err(_) => break,

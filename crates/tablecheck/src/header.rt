@@ -1,5 +1,5 @@
 //! Headers, read without a decoder.
-ghost use Rattle.std.specs.Prelude.{◌≡◌};
+ghost use Rattle.std.specs.Prelude.{◌≡◌, ◌++◌, None};
 ghost use Rattle.bunser.specs.Outcome.{TellsAt};
 ghost use Rattle.bunser.specs.Reads.{header_read};
 ghost use Rattle.read.specs.Reader.{View};
@@ -22,7 +22,11 @@ fn header_of<R: DeRead + Drop>(read: R) -> Result<Header, Refusal>
 }
 
 /// A reader that copies these bytes: a chain of two halves, in pieces of 7 and of 64 bytes.
-pub fn copying(bytes: &[u8]) -> IoRead<Chain<PieceSource<'_>, PieceSource<'_>>> {
+pub fn copying(bytes: &[u8]) -> IoRead<Chain<PieceSource<'_>, PieceSource<'_>>>
+    ensures parts { result.source.first.slice.rest.now ++ result.source.second.slice.rest.now ≡ bytes.now }
+    ensures clean { (result.source.first.ending ≡ None) × (result.source.second.ending ≡ None) }
+    ensures fresh { (result.peeked ≡ None) × (result.read_count ≡ 0) }
+{
     let (front, back) = bytes.split_at(bytes.len() / 2);
     let first = PieceSource::new(front, 7, None);
     let second = PieceSource::new(back, 64, None);

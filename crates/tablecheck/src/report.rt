@@ -89,8 +89,12 @@ impl fmt::Display for FileReport {
             writeln!(f, "  PDU {number}")?;
             line(f, "outcome", refusal)?;
         }
-        let found = self.found();
+        let found = Count(self.found(), "PDU");
         let accepted = self.accepted();
-        write!(f, "  {}: {accepted} accepted", Count(found, "PDU"))
+        match self.found() {
+            0 => write!(f, "  no PDU: the file is empty"),
+            n if n == accepted => write!(f, "  {found}: all accepted"),
+            _ => write!(f, "  {found}: {accepted} accepted, and one refused, where reading stopped"),
+        }
     }
 }

@@ -16,10 +16,11 @@ pub struct Table {
 }
 
 impl Table {
+    /// A table whose first row begins.
     pub fn new(alloc: Global) -> Table {
         Table {
             columns: Vec::new(alloc),
-            rows: 0,
+            rows: 1,
             gaps: 0,
             cells: 0,
         }
