@@ -1,4 +1,8 @@
 //! What a body holds, found event by event.
+ghost use Rattle.std.specs.Prelude.{◌≡◌, OnOk};
+ghost use Rattle.tablecheck.specs.declared.content.Content.TheVariants as content;
+ghost use Rattle.tablecheck.specs.Surveys.{depth_behind};
+
 use super::table::Table;
 use super::words::Count;
 use de::event::Event;
@@ -103,7 +107,9 @@ pub struct Survey {
 }
 
 // How many containers are open behind an event.
-fn depth_behind(event: Event, depth: usize) -> usize {
+fn depth_behind(event: Event, depth: usize) -> usize
+    ensures { result ≡ depth_behind event depth }
+{
     match event {
         Event::ArrayBegin | Event::MapBegin => depth.saturating_add(1),
         Event::ArrayEnd | Event::MapEnd => depth.saturating_sub(1),
@@ -112,7 +118,9 @@ fn depth_behind(event: Event, depth: usize) -> usize {
 }
 
 impl Survey {
-    pub fn new(alloc: Global) -> Survey {
+    pub fn new(alloc: Global) -> Survey
+        ensures { (result.content ≡ content.Nothing) × (result.depth ≡ 0) }
+    {
         Survey {
             alloc,
             content: Content::Nothing,
@@ -121,7 +129,9 @@ impl Survey {
     }
 
     /// The next event, with the bytes of a key.
-    pub fn note(&mut self, event: Event, key: &[u8]) -> Result<(), AllocError> {
+    pub fn note(&mut self, event: Event, key: &[u8]) -> Result<(), AllocError>
+        ensures { OnOk result (self.new.depth ≡ depth_behind event self.old.depth) }
+    {
         match self.depth {
             0 => self.content = Content::begun(event),
             1 => self.content.note_member(self.alloc, event),
@@ -132,7 +142,9 @@ impl Survey {
         Ok(())
     }
 
-    pub fn into_content(self) -> Content {
+    pub fn into_content(self) -> Content
+        ensures { result ≡ self.content }
+    {
         let Survey {
             alloc: _,
             content,

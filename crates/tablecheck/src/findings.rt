@@ -1,4 +1,9 @@
 //! A file, read by two kinds of readers.
+ghost use Rattle.std.specs.Prelude.{◌≡◌, ◌↔◌, IsTrue, IfOk};
+ghost use Rattle.format.specs.declared.refusal.ReadError.TheVariants.{Short, Room};
+ghost use Rattle.format.specs.declared.refusal.Cause.TheVariants.{Read};
+ghost use Rattle.tablecheck.specs.Reports.{IsGood};
+
 use super::content::{Content, Survey};
 use super::header::{Headers, copying, header_at};
 use super::report::{FileReport, PduReport};
@@ -13,11 +18,15 @@ use std::alloc::{AllocError, Global};
 use std::fmt;
 
 // No PDU is left: the file ends where one would begin.
-fn is_end(refusal: &Refusal, size: usize) -> bool {
+fn is_end(refusal: &Refusal, size: usize) -> bool
+    ensures { IsTrue result ↔ (refusal.now ≡ record { place = size; cause = Read Short }) }
+{
     refusal.cause == Cause::Read(ReadError::Short) && refusal.place == size
 }
 
-fn is_room(refusal: &Refusal) -> bool {
+fn is_room(refusal: &Refusal) -> bool
+    ensures { IsTrue result ↔ (refusal.now.cause ≡ Read Room) }
+{
     refusal.cause == Cause::Read(ReadError::Room)
 }
 
@@ -62,7 +71,9 @@ impl<'a, R: DeRead + Drop> Reading<'a, R> {
     }
 
     // The PDU of this token, which begins at this place.
-    fn read_pdu(&mut self, info: PduInfo, place: usize) -> Result<PduReport, AllocError> {
+    fn read_pdu(&mut self, info: PduInfo, place: usize) -> Result<PduReport, AllocError>
+        ensures { IfOk result (λ r. IfOk r.outcome (λ closed. closed.events ≡ r.events)) }
+    {
         let content = self.survey();
         let outcome = match self.decoder.close(info) {
             Ok(closed) => Ok(closed),
@@ -140,8 +151,10 @@ impl Findings {
     }
 
     /// Both readers accept every PDU, and come to the same.
-    pub fn is_good(&self) -> bool {
-        self.agree() && self.lent.is_good()
+    pub fn is_good(&self) -> bool
+        ensures { IsTrue result → IsGood self.now.lent × IsGood self.now.copied }
+    {
+        self.agree() && self.lent.is_good() && self.copied.is_good()
     }
 }
 

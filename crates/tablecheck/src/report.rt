@@ -1,4 +1,7 @@
 //! What is said of a file.
+ghost use Rattle.std.specs.Prelude.{◌≡◌, ◌↔◌, is_ok, IsTrue};
+ghost use Rattle.tablecheck.specs.Reports.{IsGood};
+
 use super::content::Content;
 use super::words::Count;
 use bunser::Header;
@@ -16,7 +19,9 @@ pub struct PduReport {
 }
 
 impl PduReport {
-    pub fn is_accepted(&self) -> bool {
+    pub fn is_accepted(&self) -> bool
+        ensures { result ≡ is_ok self.now.outcome }
+    {
         self.outcome.is_ok()
     }
 }
@@ -30,9 +35,13 @@ pub struct FileReport {
 }
 
 impl FileReport {
-    /// There are PDUs, and all were accepted.
-    pub fn is_good(&self) -> bool {
-        self.found() > 0 && self.accepted() == self.found()
+    /// There are PDUs, all were accepted, and the file ends behind them.
+    pub fn is_good(&self) -> bool
+        ensures { IsTrue result ↔ IsGood self.now }
+    {
+        !self.pdus.is_empty()
+            && self.unopened.is_none()
+            && self.pdus.iter().all(|pdu| pdu.is_accepted())
     }
 
     // How many PDUs begin in the file, as far as it was read.
@@ -91,10 +100,12 @@ impl fmt::Display for FileReport {
         }
         let found = Count(self.found(), "PDU");
         let accepted = self.accepted();
-        match self.found() {
-            0 => write!(f, "  no PDU: the file is empty"),
-            n if n == accepted => write!(f, "  {found}: all accepted"),
-            _ => write!(f, "  {found}: {accepted} accepted, and one refused, where reading stopped"),
+        if self.is_good() {
+            write!(f, "  {found}: all accepted")
+        } else if self.found() == 0 {
+            write!(f, "  no PDU: the file is empty")
+        } else {
+            write!(f, "  {found}: {accepted} accepted, and one refused, where reading stopped")
         }
     }
 }

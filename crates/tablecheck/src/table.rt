@@ -1,4 +1,8 @@
 //! A table, and how it is found in the events of a list.
+ghost use Rattle.std.specs.Prelude.{◌≡◌, ◌≢◌, ◌==◌, [], Ok, vec_len, IfOk, true, IsTrue, ◌↔◌, Some, slice_get, option_map, string_bytes};
+ghost use Rattle.de.specs.declared.event.Event.TheVariants.{MapEnd};
+ghost use Rattle.tablecheck.specs.Surveys.{more, gaps_behind};
+
 use super::words::{Count, Names};
 use de::event::Event;
 use std::alloc::{AllocError, Global};
@@ -17,7 +21,10 @@ pub struct Table {
 
 impl Table {
     /// A table whose first row begins.
-    pub fn new(alloc: Global) -> Table {
+    pub fn new(alloc: Global) -> Table
+        ensures counts { (result.rows ≡ 1) × (result.gaps ≡ 0) }
+        ensures columns { result.columns.items ≡ [] }
+    {
         Table {
             columns: Vec::new(alloc),
             rows: 1,
@@ -26,17 +33,26 @@ impl Table {
         }
     }
 
-    pub fn rows(&self) -> usize {
+    pub fn rows(&self) -> usize
+        ensures { result ≡ self.now.rows }
+    {
         self.rows
     }
 
-    pub fn begin_row(&mut self) {
+    pub fn begin_row(&mut self)
+        ensures { self.new ≡ record self.old { rows = more self.old.rows; cells = 0 } }
+    {
         self.rows = self.rows.saturating_add(1);
         self.cells = 0;
     }
 
     /// An event of a row, with the bytes of a key. Tells whether the row still has the table's columns.
-    pub fn note(&mut self, event: Event, key: &[u8]) -> Result<bool, AllocError> {
+    pub fn note(&mut self, event: Event, key: &[u8]) -> Result<bool, AllocError>
+        ensures gaps { self.new.gaps ≡ gaps_behind event self.old.gaps }
+        ensures rows { self.new.rows ≡ self.old.rows }
+        ensures columns { self.old.rows ≢ 1 → self.new.columns.items ≡ self.old.columns.items }
+        ensures whole { event ≡ MapEnd → result ≡ Ok (self.old.cells == vec_len self.old.columns) }
+    {
         match event {
             Event::Key(_) => self.begin_cell(key),
             Event::Absent => {
@@ -49,7 +65,14 @@ impl Table {
     }
 
     // A cell begins; those of the first row say what the columns are.
-    fn begin_cell(&mut self, key: &[u8]) -> Result<bool, AllocError> {
+    fn begin_cell(&mut self, key: &[u8]) -> Result<bool, AllocError>
+        ensures gaps { self.new.gaps ≡ self.old.gaps }
+        ensures rows { self.new.rows ≡ self.old.rows }
+        ensures cells { self.new.cells ≡ more self.old.cells }
+        ensures columns { self.old.rows ≢ 1 → self.new.columns.items ≡ self.old.columns.items }
+        ensures first { self.old.rows ≡ 1 → IfOk result (λ same. same ≡ true) }
+        ensures later { self.old.rows ≢ 1 → IfOk result (λ same. IsTrue same ↔ (option_map string_bytes (slice_get self.old.columns.items self.old.cells) ≡ Some key.now)) }
+    {
         let place = self.cells;
         self.cells = place.saturating_add(1);
         if self.rows == 1 {
@@ -66,7 +89,9 @@ impl Table {
         Names(self.columns.as_slice())
     }
 
-    pub fn gaps(&self) -> usize {
+    pub fn gaps(&self) -> usize
+        ensures { result ≡ self.now.gaps }
+    {
         self.gaps
     }
 }

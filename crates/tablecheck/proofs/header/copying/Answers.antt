@@ -1,4 +1,4 @@
-use Rattle.std.proofs.Common.{◌≡◌, ◌/◌, ◌++◌, length, take, drop, ap, ◌∙◌, take-append-drop}
+use Rattle.std.proofs.Common.{◌/◌, ◌++◌, length, take, ap, ◌∙◌, take-append-drop}
 use Rattle.tablecheck.proofs.header.copying.Goals as goal
 
 pub returns : goal.returns
