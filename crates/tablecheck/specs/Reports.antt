@@ -1,5 +1,5 @@
 -- When all is well with a file.
-use Rattle.std.specs.Prelude.{◌≡◌, ◌≢◌, [], Option, None, IsOk, All}
+use Rattle.std.specs.Prelude.{◌≡◌, ◌≢◌, [], None, IsOk, All}
 use Rattle.tablecheck.specs.declared.report.FileReport.{FileReport}
 
 -- there are PDUs, each was accepted, and behind the last the file ends

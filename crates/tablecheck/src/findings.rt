@@ -51,7 +51,9 @@ impl<'a, R: DeRead + Drop> Reading<'a, R> {
     // A reader that copies has room for as many bytes as the file has. A text that is longer cannot
     // be there; passing it over tells why.
     fn passes_long_text(&mut self) -> bool {
-        self.decoder.refusal().is_some_and(|refusal| is_room(&refusal))
+        self.decoder
+            .refusal()
+            .is_some_and(|refusal| is_room(&refusal))
             && self.decoder.skip().is_ok()
     }
 
@@ -119,7 +121,12 @@ impl<'a, R: DeRead + Drop> Reading<'a, R> {
 }
 
 // What this reader finds in a file.
-fn found<R: DeRead + Drop>(alloc: Global, file: &[u8], reader: R, room: usize) -> Result<FileReport, AllocError> {
+fn found<R: DeRead + Drop>(
+    alloc: Global,
+    file: &[u8],
+    reader: R,
+    room: usize,
+) -> Result<FileReport, AllocError> {
     let mut reading = Reading {
         alloc,
         file,
@@ -164,7 +171,11 @@ impl fmt::Display for Findings {
         if self.agree() {
             write!(f, "  both readers agree")
         } else {
-            write!(f, "  a reader that copies comes to something else:\n{}", self.copied)
+            write!(
+                f,
+                "  a reader that copies comes to something else:\n{}",
+                self.copied
+            )
         }
     }
 }

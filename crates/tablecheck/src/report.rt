@@ -105,7 +105,10 @@ impl fmt::Display for FileReport {
         } else if self.found() == 0 {
             write!(f, "  no PDU: the file is empty")
         } else {
-            write!(f, "  {found}: {accepted} accepted, and one refused, where reading stopped")
+            write!(
+                f,
+                "  {found}: {accepted} accepted, and one refused, where reading stopped"
+            )
         }
     }
 }

@@ -64,6 +64,16 @@ impl Table {
         }
     }
 
+    // Whether this is the key of the column that is due.
+    fn is_due(&self, key: &[u8]) -> bool
+        ensures { IsTrue result ↔ (option_map string_bytes (slice_get self.now.columns.items self.now.cells) ≡ Some key.now) }
+    {
+        match self.columns.get(self.cells) {
+            Some(name) => name.as_bytes() == key,
+            None => false,
+        }
+    }
+
     // A cell begins; those of the first row say what the columns are.
     fn begin_cell(&mut self, key: &[u8]) -> Result<bool, AllocError>
         ensures gaps { self.new.gaps ≡ self.old.gaps }
@@ -73,15 +83,14 @@ impl Table {
         ensures first { self.old.rows ≡ 1 → IfOk result (λ same. same ≡ true) }
         ensures later { self.old.rows ≢ 1 → IfOk result (λ same. IsTrue same ↔ (option_map string_bytes (slice_get self.old.columns.items self.old.cells) ≡ Some key.now)) }
     {
-        let place = self.cells;
-        self.cells = place.saturating_add(1);
-        if self.rows == 1 {
-            let alloc = *self.columns.allocator();
-            self.columns.push(String::from_utf8_lossy(alloc, key)?)?;
-            return Ok(true);
+        let due = self.is_due(key);
+        self.cells = self.cells.saturating_add(1);
+        if self.rows != 1 {
+            return Ok(due);
         }
-        let column = self.columns.get(place);
-        Ok(column.is_some_and(|name| name.as_bytes() == key))
+        let alloc = *self.columns.allocator();
+        self.columns.push(String::from_utf8_lossy(alloc, key)?)?;
+        Ok(true)
     }
 
     /// The columns by their names.

@@ -13,9 +13,9 @@ returns c =
     let second = ap (λ x. x.second) io.0 ∙ chain.1 in
     record {
       parts =
-        ap (λ l. l ++ c.new-2.result.source.second.slice.rest.now) (ap (λ x. x.slice.rest.now) first ∙ front.0 ∙ cut.front)
-        ∙ ap (λ l. take (length xs / 2) xs ++ l) (ap (λ x. x.slice.rest.now) second ∙ back.0 ∙ cut.back)
-        ∙ take-append-drop (length xs / 2) xs;
+          ap (λ l. l ++ c.new-2.result.source.second.slice.rest.now) (ap (λ x. x.slice.rest.now) first ∙ front.0 ∙ cut.front)
+          ∙ ap (λ l. take (length xs / 2) xs ++ l) (ap (λ x. x.slice.rest.now) second ∙ back.0 ∙ cut.back)
+          ∙ take-append-drop (length xs / 2) xs;
       clean = (ap (λ x. x.ending) first ∙ front.2, ap (λ x. x.ending) second ∙ back.2);
       fresh = (io.2, io.1);
     }
