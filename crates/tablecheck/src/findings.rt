@@ -1,6 +1,6 @@
 //! A file, read by two kinds of readers.
 ghost use Rattle.std.specs.Prelude.{◌≡◌, ◌↔◌, IsTrue, IfOk};
-ghost use Rattle.format.specs.declared.refusal.ReadError.TheVariants.{Short, Room};
+ghost use Rattle.format.specs.declared.refusal.ReadError.TheVariants.{Room};
 ghost use Rattle.format.specs.declared.refusal.Cause.TheVariants.{Read};
 ghost use Rattle.tablecheck.specs.Reports.{IsGood};
 
@@ -16,13 +16,6 @@ use read::DeRead;
 use read::slice::SliceRead;
 use std::alloc::{AllocError, Global};
 use std::fmt;
-
-// No PDU is left: the file ends where one would begin.
-fn is_end(refusal: &Refusal, size: usize) -> bool
-    ensures { IsTrue result ↔ (refusal.now ≡ record { place = size; cause = Read Short }) }
-{
-    refusal.cause == Cause::Read(ReadError::Short) && refusal.place == size
-}
 
 fn is_room(refusal: &Refusal) -> bool
     ensures { IsTrue result ↔ (refusal.now.cause ≡ Read Room) }
@@ -97,6 +90,9 @@ impl<'a, R: DeRead + Drop> Reading<'a, R> {
         let mut place = 0;
         // Each PDU takes bytes, so there are no more PDUs than bytes.
         for _ in 0..self.file.len() {
+            if place >= self.file.len() {
+                break;
+            }
             match self.decoder.open() {
                 Ok(info) => {
                     let pdu = self.read_pdu(info, place)?;
@@ -108,10 +104,7 @@ impl<'a, R: DeRead + Drop> Reading<'a, R> {
                     }
                 }
                 Err(_) => {
-                    let refusal = self.decoder.refusal().unwrap();
-                    if !is_end(&refusal, self.file.len()) {
-                        unopened = Some(refusal);
-                    }
+                    unopened = Some(self.decoder.refusal().unwrap());
                     break;
                 }
             }
