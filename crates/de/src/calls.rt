@@ -1,5 +1,9 @@
 //! The four calls, and the question.
-ghost use Rattle.std.specs.Prelude.{◌≡◌, length};
+ghost use Rattle.std.specs.Prelude.{◌≡◌, length, Some, None, MatchResult};
+ghost use Rattle.format.specs.declared.refusal.ReadError.TheVariants.{Room};
+ghost use Rattle.bunser.specs.Outcome.{at};
+ghost use Rattle.bunser.specs.Texts.{spanned, referred, bytes_of, is_borrowed, is_lent};
+ghost use Rattle.de.specs.Shown.{span_bytes};
 ghost use Rattle.source.specs.Feed.{fronted};
 ghost use Rattle.de.specs.Calls.{fresh, here, latch, telling, refused_of, Meets, open_call, next_call, next_puts, SkipCall, close_body, close_call, tally};
 ghost use Rattle.de.specs.Decoding.{state_of, extent_of};
@@ -9,7 +13,8 @@ use super::decoder::Decoder;
 use super::event::{Event, Refused};
 use super::events::Events;
 use super::pdu::{Closed, Extent, OpenPdu, PduInfo};
-use format::refusal::{Cause, Refusal};
+use bunser::text::{Reference, Span};
+use format::refusal::{Cause, ReadError, Refusal};
 use read::DeRead;
 
 impl<R: DeRead> Decoder<R> {
@@ -185,5 +190,32 @@ impl<R: DeRead> Decoder<R> {
         };
         let bytes = count.saturating_sub(self.last.start).min(self.last.length);
         (self.events.passed, bytes)
+    }
+
+    /// The bytes that an event names, as a part of the input or of the text buffer that the event was given.
+    pub fn part<'r>(&self, span: Span, input: &'r [u8], buf: &'r [u8]) -> Result<&'r [u8], Refusal>
+        ensures { MatchResult result (λ s. (spanned span input.now buf.now ≡ Some s.now) × (s.now ≡ span_bytes input.now buf.now span)) (λ f. (spanned span input.now buf.now ≡ None) × (f ≡ at Room (state_of R.DeRead.view self.now).body.reader.count)) }
+    {
+        self.events.bunser.part(span, input, buf)
+    }
+
+    /// The bytes that an event names, as the reader keeps them or as the text buffer has them.
+    pub fn reference<'b, 'c>(
+        &'b self,
+        span: Span,
+        buf: &'c [u8],
+    ) -> Result<Reference<'b, 'c>, ReadError>
+        ensures { MatchResult result (λ x. (referred R.DeRead.lends (state_of R.DeRead.view self.now).body.reader span buf.now ≡ Some (bytes_of x)) × (is_borrowed x ≡ is_lent span.taken)) (λ e. (referred R.DeRead.lends (state_of R.DeRead.view self.now).body.reader span buf.now ≡ None) × (e ≡ Room)) }
+    {
+        self.events.bunser.reference(span, buf)
+    }
+
+    /// Gives the reader back.
+    pub fn into_inner(self) -> R
+        ensures { R.DeRead.view result ≡ (state_of R.DeRead.view self).body.reader }
+    {
+        let Decoder { events, .. } = self;
+        let Events { bunser, .. } = events;
+        bunser.into_inner()
     }
 }

@@ -1,4 +1,4 @@
-ghost use Rattle.std.specs.Prelude.{◌+◌, ◌≤◌};
+ghost use Rattle.std.specs.Prelude.{◌≡◌, ◌+◌, ◌≤◌};
 
 use bunser::Header;
 
@@ -22,6 +22,15 @@ pub struct OpenPdu {
 /// What `open` read of a PDU. It has to be given to `close`, once.
 pub struct PduInfo {
     pub(crate) header: Header,
+}
+
+impl PduInfo {
+    /// What the header declares.
+    pub fn header(&self) -> Header
+        ensures { result ≡ self.now.header }
+    {
+        self.header
+    }
 }
 
 /// What an accepting `close` tells: how many events have passed, and how long the body was.

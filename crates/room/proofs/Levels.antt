@@ -7,7 +7,7 @@ use Rattle.room.specs.Open.{Column, Open, start, items, pairs, field, rows, row,
 use Rattle.room.specs.declared.frame.Table.{Table}
 use Rattle.room.specs.declared.frame.Frame.{Frame}
 use Rattle.room.specs.declared.frame.Frame.TheVariants as frame
-use Rattle.room.specs.Frames.{columns, open_of, Fits, Limited, below, Ends, in_row}
+use Rattle.room.specs.Frames.{columns, open_of, Fits, Limited, below, Ends, in_row, Plain}
 use Rattle.room.specs.Opens.{frame_at, opens_in, Stacked, rows_in}
 use Rattle.room.proofs.Parts.{front_part}
 
@@ -85,6 +85,21 @@ depth_filled (field k ∷ s) = refl
 depth_filled (rows ks k ∷ s) = refl
 depth_filled (row l ks k ∷ s) = refl
 depth_filled (cell l ks k ∷ s) = refl
+
+-- an array or an object has no columns
+pub record Columnless (f : Frame) : Type 0 where
+  pub ends : (own : ℕ) → Ends f own
+  pub under : (own : ℕ) → below f own ≡ own
+  pub no_row : in_row f ≡ 0
+  pub same : (held held' : List Column) → open_of held' f ≡ open_of held f
+
+pub columnless : (f : Frame) → Plain f → Columnless f
+columnless (frame.Items n) h = record { ends = λ own. tt; under = λ own. refl; no_row = refl; same = λ a b. refl }
+columnless (frame.Pairs n) h = record { ends = λ own. tt; under = λ own. refl; no_row = refl; same = λ a b. refl }
+columnless (frame.Field n) h = absurd h
+columnless (frame.Rows t n) h = absurd h
+columnless (frame.Row t i n) h = absurd h
+columnless (frame.Cell t i n) h = absurd h
 
 -- ---- all frames
 

@@ -73,3 +73,12 @@ column_at (frame.Field n) = None
 column_at (frame.Rows t n) = None
 column_at (frame.Row t i n) = cond (nat_lt i t.len) (Some (t.first + i)) None
 column_at (frame.Cell t i n) = None
+
+-- an array or an object before its first
+abbrev pub Plain : Frame → Type 0
+Plain (frame.Items n) = Unit {0}
+Plain (frame.Pairs n) = Unit {0}
+Plain (frame.Field n) = ⊥
+Plain (frame.Rows t n) = ⊥
+Plain (frame.Row t i n) = ⊥
+Plain (frame.Cell t i n) = ⊥

@@ -7,14 +7,14 @@ use super::due::Due;
 
 /// The columns of a template: so many keys of key room from an index on.
 #[derive(Clone, Copy)]
-pub struct Table {
+pub(crate) struct Table {
     pub(crate) first: usize,
     pub(crate) len: usize,
 }
 
 /// What is open at one level.
 #[derive(Clone, Copy)]
-pub enum Frame {
+pub(crate) enum Frame {
     /// An array with so many values to come.
     Items(usize),
     /// An object before a key, with so many pairs to come.

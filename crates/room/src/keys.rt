@@ -23,7 +23,7 @@ pub enum Name<'k> {
 
 /// The keys of the open templates, those of the innermost last.
 #[derive(Drop)]
-pub struct KeyRoom {
+pub(crate) struct KeyRoom {
     slots: [Slot; KEYS],
     count: usize,
     bytes: [u8; KEY_BYTES],
@@ -44,7 +44,7 @@ impl Model for KeyRoom {
 }
 
 impl KeyRoom {
-    pub fn new() -> KeyRoom
+    pub(crate) fn new() -> KeyRoom
         ensures { result ≡ [] }
     {
         KeyRoom {
@@ -55,7 +55,7 @@ impl KeyRoom {
         }
     }
 
-    pub fn len(&self) -> usize
+    pub(crate) fn len(&self) -> usize
         ensures many { result ≡ length self.now }
         ensures few { result ≤ KEYS }
     {
@@ -63,7 +63,7 @@ impl KeyRoom {
     }
 
     /// The column at an index.
-    pub fn name(&self, index: usize) -> Name<'_>
+    pub(crate) fn name(&self, index: usize) -> Name<'_>
         requires { index < length self.now }
         ensures { drop index self.now ≡ name_of result ∷ drop (index + 1) self.now }
     {
@@ -85,7 +85,7 @@ impl KeyRoom {
     }
 
     /// Keeps the first n keys alone.
-    pub fn truncate(&mut self, n: usize)
+    pub(crate) fn truncate(&mut self, n: usize)
         requires { n ≤ length self.old }
         ensures { self.new ≡ take n self.old }
     {
@@ -115,7 +115,11 @@ impl KeyRoom {
     }
 
     /// Reads n keys, for which there is room by number.
-    pub fn read_keys<R: DeRead>(&mut self, bunser: &mut Bunser<R>, n: usize) -> Result<(), Refusal>
+    pub(crate) fn read_keys<R: DeRead>(
+        &mut self,
+        bunser: &mut Bunser<R>,
+        n: usize,
+    ) -> Result<(), Refusal>
         requires { length self.old + n ≤ KEYS }
         ensures few { length self.new ≤ KEYS }
         ensures reads { BodyRead R.DeRead.view bunser.old bunser.new (λ end v. KeysTold (keys_read R.DeRead.lends end (column_bytes self.old) n v) self.old result self.new) }

@@ -3,7 +3,7 @@
 
 pub mod depth;
 pub mod due;
-pub mod frame;
+mod frame;
 pub mod keys;
 pub mod opens;
-pub mod slot;
+mod slot;

@@ -3,7 +3,8 @@ ghost use Rattle.std.specs.Prelude.{◌≡◌, ◌+◌, ◌-◌, ◌<◌, ◌≤
 ghost use Rattle.bunser.specs.Outcome.{BodyRead};
 ghost use Rattle.room.specs.Open.{Open, start, items, pairs, rows, due, filled, keyed, row_turned, ended, column, depth, nesting, keys_held, bytes_held, column_bytes};
 ghost use Rattle.room.specs.KeyList.{listed_read, key_list_read, KeysTold, ListTold};
-ghost use Rattle.room.specs.Opened.{Opened, with_opens};
+ghost use Rattle.room.specs.Opened.{with_opens, if_free};
+ghost use Rattle.room.specs.Frames.{open_of, Plain};
 ghost use Rattle.room.specs.Shown.{name_of};
 
 use super::depth::{Depth, LEVELS, Level};
@@ -217,22 +218,32 @@ impl Opens {
         self.forget();
     }
 
-    /// An array begins.
-    pub fn items(&mut self, n: usize)
-        requires { depth self.old.opens < LEVELS }
-        ensures { self.new ≡ with_opens self.old (items n ∷ filled self.old.opens) }
+    // A level is taken by an array or an object, whose place is taken.
+    fn push(&mut self, frame: Frame)
+        requires free { depth self.old.opens < LEVELS }
+        requires plain { Plain frame }
+        ensures { self.new ≡ with_opens self.old (open_of [] frame ∷ filled self.old.opens) }
     {
         self.fill();
-        push(&mut self.frames, &mut self.depth, Frame::Items(n));
+        push(&mut self.frames, &mut self.depth, frame);
     }
 
-    /// An object begins.
-    pub fn pairs(&mut self, n: usize)
-        requires { depth self.old.opens < LEVELS }
-        ensures { self.new ≡ with_opens self.old (pairs n ∷ filled self.old.opens) }
+    /// An array of n values begins. Where no level is free it does not.
+    pub fn items(&mut self, n: usize)
+        ensures { self.new ≡ if_free self.old (with_opens self.old (items n ∷ filled self.old.opens)) }
     {
-        self.fill();
-        push(&mut self.frames, &mut self.depth, Frame::Pairs(n));
+        if self.is_free() {
+            self.push(Frame::Items(n));
+        }
+    }
+
+    /// An object of n pairs begins. Where no level is free it does not.
+    pub fn pairs(&mut self, n: usize)
+        ensures { self.new ≡ if_free self.old (with_opens self.old (pairs n ∷ filled self.old.opens)) }
+    {
+        if self.is_free() {
+            self.push(Frame::Pairs(n));
+        }
     }
 
     // The list behind its tag, which was shown, where two levels are free: the template's own and the list's.
@@ -275,8 +286,8 @@ impl Opens {
         self.read_list(bunser)
     }
 
-    /// A template begins: its columns are the keys that were listed.
-    pub fn rows(&mut self, n: usize)
+    // A level is taken by a template, whose columns are the keys that were listed.
+    fn push_rows(&mut self, n: usize)
         requires { depth self.old.opens < LEVELS }
         ensures { self.new ≡ record { opens = rows self.old.listed n ∷ filled self.old.opens; listed = [] } }
     {
@@ -289,5 +300,14 @@ impl Opens {
         };
         push(&mut self.frames, &mut self.depth, Frame::Rows(table, n));
         self.own = own;
+    }
+
+    /// A template of n rows begins: its columns are the keys that were listed. Where no level is free it does not.
+    pub fn rows(&mut self, n: usize)
+        ensures { self.new ≡ if_free self.old (record { opens = rows self.old.listed n ∷ filled self.old.opens; listed = [] }) }
+    {
+        if self.is_free() {
+            self.push_rows(n);
+        }
     }
 }

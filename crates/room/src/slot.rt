@@ -13,7 +13,7 @@ pub const KEY_BYTES: usize = 4096;
 
 /// Where the bytes of a key lie, and how many they are.
 #[derive(Clone, Copy)]
-pub enum Slot {
+pub(crate) enum Slot {
     /// The reader keeps them from this place on.
     Lent(usize, usize),
     /// Key room holds them from this index on.

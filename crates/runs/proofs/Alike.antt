@@ -12,7 +12,7 @@ use Rattle.runs.proofs.Counts.{same_fronts, length_digits, digits_value, int_sam
 
 -- ---- texts and keys
 
-pub text_same : {w u : Width} {bs cs : List ℕ} (r q : List ℕ) → TextFormed w bs → TextFormed u cs → text_encoding w bs ++ r ≡ text_encoding u cs ++ q → (w ≡ u) × (bs ≡ cs) × (r ≡ q)
+text_same : {w u : Width} {bs cs : List ℕ} (r q : List ℕ) → TextFormed w bs → TextFormed u cs → text_encoding w bs ++ r ≡ text_encoding u cs ++ q → (w ≡ u) × (bs ≡ cs) × (r ≡ q)
 text_same {w} {u} {bs} {cs} r q f g e =
     let parts = sym (append_assoc (count_encoding w (length bs)) bs r) ∙ e ∙ append_assoc (count_encoding u (length cs)) cs q in
     let counts = count_same (bs ++ r) (cs ++ q) f.0 g.0 parts in
@@ -24,7 +24,7 @@ same_key_tag as_bytes as_bytes e = refl
 same_key_tag as_text as_text e = refl
 same_key_tag _ _ e = absurd (omega arith)
 
-pub key_same : {k l : Key} (r q : List ℕ) → KeyFormed k → KeyFormed l → key_encoding k ++ r ≡ key_encoding l ++ q → (k ≡ l) × (r ≡ q)
+key_same : {k l : Key} (r q : List ℕ) → KeyFormed k → KeyFormed l → key_encoding k ++ r ≡ key_encoding l ++ q → (k ≡ l) × (r ≡ q)
 key_same {k} {l} r q f g e =
     let tag : k.tag ≡ l.tag = same_key_tag k.tag l.tag (ap (λ x. get_or x 0 0) e) in
     let texts = text_same {w = k.width} {u = l.width} {bs = k.name} {cs = l.name} r q f.0 g.0 (ap (drop 1) e) in
@@ -36,7 +36,7 @@ key_same {k} {l} r q f g e =
         ∙ ap (λ w. record { tag = l.tag; width = w; name = k.name }) width
         ∙ ap (λ n. record { tag = l.tag; width = l.width; name = n }) name
 
-pub keys_same : (ks ls : List Key) {r q : List ℕ} → length ks ≡ length ls → KeysFormed ks → KeysFormed ls → keys_encoding ks ++ r ≡ keys_encoding ls ++ q → (ks ≡ ls) × (r ≡ q)
+keys_same : (ks ls : List Key) {r q : List ℕ} → length ks ≡ length ls → KeysFormed ks → KeysFormed ls → keys_encoding ks ++ r ≡ keys_encoding ls ++ q → (ks ≡ ls) × (r ≡ q)
 keys_same [] [] long f g e = (refl, e)
 keys_same [] (l ∷ ls) long f g e = absurd (omega arith)
 keys_same (k ∷ ks) [] long f g e = absurd (omega arith)
@@ -126,7 +126,7 @@ kind_same (object_item w n) (object_item u m) r q k f g e = let same = count_sam
 kind_same (template_item w ks u n) (template_item x ls y m) r q k f g e = template_same w u x y ks ls n m r q f g e
 kind_same a b r q k f g e = absurd (omega (arith, k))
 
-pub item_same : (a b : Item) (r q : List ℕ) → ItemFormed a → ItemFormed b → item_bytes a ++ r ≡ item_bytes b ++ q → a ≡ b
+item_same : (a b : Item) (r q : List ℕ) → ItemFormed a → ItemFormed b → item_bytes a ++ r ≡ item_bytes b ++ q → a ≡ b
 item_same a b r q f g e = kind_same a b r q (sym (begins_kind a r) ∙ ap (λ l. kind_of (get_or l 0 0)) e ∙ begins_kind b q) f g e
 
 -- ---- takings

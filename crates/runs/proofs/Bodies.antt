@@ -1,9 +1,9 @@
 -- A body of an open PDU: what holds of it between two events, and what a step makes of that.
-use Rattle.std.proofs.Common.{◌≡◌, ℕ, suc, ◌+◌, ◌-◌, ◌≤◌, Bool, true, false, List, [], ◌∷◌, ◌++◌, length, take, drop, Some, None, Option, ◌⊎◌, inl, inr, refl, sym, ap, ◌∙◌, subst, append_assoc, append-nil, length-append, arith}
+use Rattle.std.proofs.Common.{◌≡◌, ℕ, suc, ◌+◌, ◌-◌, ◌≤◌, Bool, true, false, List, [], ◌∷◌, ◌++◌, length, take, drop, Some, None, Option, refl, sym, ap, ◌∙◌, subst, append_assoc, append-nil, length-append, arith}
 use Rattle.std.proofs.lemmas.Bool.{le-ltb, ltb-false}
 use Rattle.std.proofs.lemmas.List.{take-append-drop}
-use Rattle.std.proofs.Math.Seq.{take-append-add, drop-append_seam}
-use Rattle.read.specs.Reader.{View, past, cramped}
+use Rattle.std.proofs.Math.Seq.{take-append-add, take-append_seam, drop-append_seam}
+use Rattle.read.specs.Reader.{View, past}
 use Rattle.format.specs.Numbers.{latching}
 use Rattle.format.specs.declared.refusal.Refusal.{Refusal}
 use Rattle.format.specs.declared.refusal.Cause.{Cause}
@@ -20,18 +20,14 @@ use Rattle.bunser.specs.Outcome.{ReadLeaves, CauseLeaves}
 use Rattle.room.specs.Open.{Column, Open}
 use Rattle.de.specs.declared.event.Event.{Event}
 use Rattle.de.specs.Steps.{Body, stops, counted, step, Apart}
-use Rattle.runs.specs.Law.{Begins, from, limits, Declared, Whole}
+use Rattle.runs.specs.Law.{all_bytes, Begins, from, limits, Declared, Whole, Ended}
 use Rattle.runs.proofs.Taking.{Level, levels, Takes, Front, none_taken, TextWanted, Waits}
-use Rattle.runs.proofs.Coming.{Completes, at_end, goes}
-use Rattle.runs.proofs.Reached.{Reached, reached_more}
+use Rattle.runs.proofs.Coming.{Completes, at_end, goes, all_come}
+use Rattle.runs.proofs.Reached.{Reached, reached_more, whole_body}
 use Rattle.runs.proofs.Stepped.{Took, Ready, Stepped, Waiting, Stopped, Can, can_give, must_wait}
 use Rattle.runs.proofs.Took.{took_none, took_more}
 use Rattle.runs.proofs.Standing.{past_less}
 use Rattle.runs.proofs.Giving.{step_can}
-
--- what was kept and what comes: all bytes, of a reader that lends
-abbrev pub all_bytes : View → List ℕ
-all_bytes v = v.kept ++ v.coming
 
 -- ---- a reader, from which bytes have been taken since the first call
 
@@ -143,6 +139,30 @@ pub passing_still : {lends : Bool} {v : View} {start size : ℕ} {taken : List �
     c.events ≡ b.events → Passing lends v start size taken es c
 passing_still p o e = record { reached = rw o p.reached; counts = e ∙ p.counts; begins = p.begins; fits = p.fits }
 
+-- the bytes up to the last event that has passed
+pub bytes_taken : {lends : Bool} {v : View} {start size : ℕ} {taken : List ℕ} {es : List value.Event} {b : Body} → Passing lends v start size taken es b →
+    take (start + length taken - start) (from v start) ≡ taken
+bytes_taken {start = start} {taken = taken} p =
+    let long : start + length taken - start ≡ length taken = omega arith in
+    rw (long, p.begins.1) (take-append_seam taken p.begins.0)
+
+pub none_more : (es x : List value.Event) → es ≡ es ++ x → x ≡ []
+none_more es [] e = refl
+none_more es (t ∷ x) e = absurd (omega (arith, simp length-append at (ap length e)))
+
+-- a value has ended exactly where nothing is open
+pub has_ended : {lends : Bool} {v : View} {start size : ℕ} {taken : List ℕ} {es : List value.Event} {b : Body} → Passing lends v start size taken es b → b.opens ≡ [] →
+    (w : Value) × Ended v start es (start + length taken) w
+has_ended {lends} {v} {taken = taken} {es = es} p closed =
+    let (w, formed, body, told) = whole_body (subst (λ o. Reached lends taken es (levels (all_bytes v) o)) closed p.reached) in
+    (w, record { formed = formed; bytes = body ∙ sym (bytes_taken p); told = told })
+
+pub nothing_open : {lends : Bool} {v : View} {start size : ℕ} {taken : List ℕ} {es : List value.Event} {b : Body} → Passing lends v start size taken es b → (w : Value) →
+    Ended v start es (start + length taken) w → b.opens ≡ []
+nothing_open {lends} {v} {taken = taken} {es = es} {b = b} p w ended =
+    let (x, told, completes) = p.reached.every w ended.formed [] (ended.bytes ∙ bytes_taken p ∙ sym (append-nil taken)) in
+    no_levels (all_bytes v) b.opens (all_come completes (none_more es x (sym ended.told ∙ told))).0
+
 -- what is still to come of a whole body
 pub still_to_come : {lends : Bool} {v : View} {start size : ℕ} {taken : List ℕ} {es : List value.Event} {b : Body} → Passing lends v start size taken es b → (w : Value) → Declared v start size w →
     (r : List ℕ) × (x : List value.Event) × (encoding w ≡ taken ++ r) × (events w ≡ es ++ x) × Completes none (levels (all_bytes v) b.opens) r x
@@ -200,11 +220,13 @@ module _ {lends : Bool} {v : View} {start size : ℕ} where
         grows = omega arith;
       }
 
-  pub stopped_inside : {taken : List ℕ} {es : List value.Event} {b c : Body} {f : Refusal} → Live lends v start size taken es b → Stopped lends (all_bytes v) b f c → c.reader.count ≤ start + size
+  pub stopped_inside : {space : Option ℕ} {taken : List ℕ} {es : List value.Event} {b c : Body} {f : Refusal} → Live lends v start size taken es b →
+      Stopped lends (all_bytes v) space b f c → c.reader.count ≤ start + size
   stopped_inside {c = c} l s = after_end c.reader.count l (s.inside (before_end l))
 
   -- a text is awaited
-  pub wait : {taken : List ℕ} {es : List value.Event} {b c : Body} {f : Refusal} → Live lends v start size taken es b → Stopped lends (all_bytes v) b f c → Waiting lends (all_bytes v) b c →
+  pub wait : {space : Option ℕ} {taken : List ℕ} {es : List value.Event} {b c : Body} {f : Refusal} → Live lends v start size taken es b →
+      Stopped lends (all_bytes v) space b f c → Waiting lends (all_bytes v) b c →
       Live lends v start size taken es c
   wait {taken} {es} {b} {c} l s t =
       let there = l.count in
@@ -246,26 +268,24 @@ module _ {lends : Bool} {v : View} {start size : ℕ} where
           (step_can space b (r ++ q) l.ready l.fronts (subst (λ s. Takes (limits lends) s c t after) (sym here) k) (rest ∙ append_assoc c r q)
           (record { before_end = rw l.end (before close); before_stop = rw l.drawn.took.stop (past_less v.stop _ (start + size) close whole.clear) })) told
 
-  -- no step refuses for good, and none at all that needs no room
-  pub never_stuck : {taken : List ℕ} {es : List value.Event} {b c : Body} {f : Refusal} {x : List ℕ} (space : Option ℕ) → Live lends v start size taken es b → (b.opens ≡ [] → ⊥) →
+  -- no step refuses for good
+  never_stuck : {taken : List ℕ} {es : List value.Event} {b c : Body} {f : Refusal} {x : List ℕ} (space : Option ℕ) → Live lends v start size taken es b → (b.opens ≡ [] → ⊥) →
       step lends space b ≡ stops f c x →
-      (latching f.cause ≡ true) ⊎ (space ≡ None) → (w : Value) → Whole lends v start size w → ⊥
-  never_stuck {es = es} {b = b} {c = c} {f = f} {x = x} space l more stop why w whole = go (outlook space l w whole)
+      latching f.cause ≡ true → (w : Value) → Whole lends v start size w → ⊥
+  never_stuck {es = es} {b = b} {c = c} {f = f} {x = x} space l more stop latches w whole = go (outlook space l w whole)
     where
       go : Outlook lends space b es w → ⊥
       go (at_the_end e told) = more e
       go (more_comes t y (can_give ev d z gave loose) told) = absurd (cc)
-      go (more_comes t y (must_wait g d z waits room tight) told) = needs why
-        where
-          same : f ≡ g
-          same = let z : stops f c x ≡ stops g d z = sym stop ∙ waits in cc
-
-          needs : (latching f.cause ≡ true) ⊎ (space ≡ None) → ⊥
-          needs (inl h) = let z : false ≡ true = sym (ap latching (ap (λ h. h.cause) same ∙ room)) ∙ h in absurd (cc)
-          needs (inr e) = let z : false ≡ true = ap (λ s. cramped s (length tight.text)) (sym e) ∙ tight.long in absurd (cc)
+      go (more_comes t y (must_wait g d z waits room tight) told) =
+          let both : stops f c x ≡ stops g d z = sym stop ∙ waits in
+          let same : f ≡ g = cc in
+          let no : false ≡ true = sym (ap latching (ap (λ h. h.cause) same ∙ room)) ∙ latches in
+          absurd (cc)
 
   -- a step was refused for good
-  pub stuck : {taken : List ℕ} {es : List value.Event} {b c : Body} {f : Refusal} {x : List ℕ} (space : Option ℕ) → Live lends v start size taken es b → Stopped lends (all_bytes v) b f c →
+  pub stuck : {taken : List ℕ} {es : List value.Event} {b c : Body} {f : Refusal} {x : List ℕ} (space : Option ℕ) → Live lends v start size taken es b →
+      Stopped lends (all_bytes v) space b f c →
       step lends space b ≡ stops f c x → latching f.cause ≡ true →
       (d : Body) → d.opens ≡ c.opens → d.events ≡ c.events → d.reader.count ≤ start + size → Stuck lends v start size taken es f d
   stuck space l s stop latches d opens events inside =
@@ -276,5 +296,5 @@ module _ {lends : Bool} {v : View} {start size : ℕ} where
         after = omega arith;
         inside = inside;
         more = λ e. s.more (sym (opens ∙ s.opens) ∙ e);
-        none_whole = never_stuck space l s.more stop (inl latches);
+        none_whole = never_stuck space l s.more stop latches;
       }

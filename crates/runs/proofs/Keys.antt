@@ -100,7 +100,7 @@ module _ (lends : Bool) (input : List ℕ) (end : Option ℕ) (held : ℕ) (v : 
       by_text (got t u) r = key_of t u r (key_tag_is l.tag l.key)
       by_text (bad e u) r = halted_behind l.gotten (record { after = omega arith; latches = room_cause_latches e; inside = r.inside })
 
-  pub key_reads : Comes (KeyRead lends input end held v) (Halted end v) (key_read lends end held v)
+  key_reads : Comes (KeyRead lends input end held v) (Halted end v) (key_read lends end held v)
   unfolding key_read
   key_reads =
       then_comes (KeyLengthRead lends end v) (Halted end v) (KeyRead lends input end held v) (Halted end v) (key_length_read lends end TemplateKey v) (key_text_read lends end held)
@@ -143,7 +143,7 @@ module _ (lends : Bool) (input : List ℕ) (end : Option ℕ) where
       (λ ks u. got (c ∷ ks) u) (others (held + column_bytes (c ∷ [])) w (gotten_on k.gotten solid) k.room) (λ cs u r. one_more k r) (λ f u h. halted_behind k.gotten h))
       (λ f w h. h)
 
-  pub keys_reads : (held n : ℕ) (v : View) → Solid lends input v → RoomForKeyBytes (limits lends) held → Comes (KeysRead lends input end held n v) (Halted end v) (keys_read lends end held n v)
+  keys_reads : (held n : ℕ) (v : View) → Solid lends input v → RoomForKeyBytes (limits lends) held → Comes (KeysRead lends input end held n v) (Halted end v) (keys_read lends end held n v)
   keys_reads held zero v solid room =
       record { keys = []; formed = tt; many = refl; names = refl; lie = tt; room = subst (λ n. RoomForKeyBytes (limits lends) n) (sym (add-zero held)) room; gotten = gotten_none lends end v }
   keys_reads held (suc n) v solid room = first_key_reads held n v solid room (λ h w. keys_reads h n w)

@@ -1,7 +1,8 @@
 -- The law of any list of calls.
-use Rattle.std.proofs.Common.{◌≡◌, ℕ, Bool, List, [], ◌∷◌, ◌++◌, Some, None, Ok, Err, Option, Result, ◌⊎◌, inl, inr, refl, sym, ap, ◌∙◌, subst, append_assoc, append-nil}
+use Rattle.std.proofs.Common.{◌≡◌, ℕ, ◌+◌, ◌≤◌, Bool, arith, List, [], ◌∷◌, ◌++◌, Some, None, Ok, Err, Option, Result, ◌⊎◌, inl, inr, refl, sym, ap, subst₂, ◌∙◌, subst, length, append_assoc, append-nil}
 use Rattle.read.specs.Reader.{View, Sound}
 use Rattle.format.specs.declared.refusal.Refusal.{Refusal}
+use Rattle.format.specs.Numbers.{number_of}
 use Rattle.values.specs.Values.{Value}
 use Rattle.de.specs.declared.event.Event.{Event}
 use Rattle.de.specs.declared.event.Refused.{Refused}
@@ -11,17 +12,18 @@ use Rattle.de.specs.declared.entry.Call.{Call}
 use Rattle.de.specs.declared.entry.Call.TheVariants as call
 use Rattle.de.specs.declared.entry.Answer.{Answer}
 use Rattle.de.specs.declared.entry.Answer.TheVariants as answer
+use Rattle.de.specs.Steps.{Body}
 use Rattle.de.specs.Calls.{State, fresh}
 use Rattle.de.specs.Made.{Moment, AsTold, OpenAnswer, NextAnswer, SkipAnswer, CloseAnswer, MadeBy, Logged}
-use Rattle.runs.specs.Law.{running, count_after, GoesOn, Reads, Whole, Opens, Suits, AllIdle, PduStory, Law, Refuses, Unlatched}
-use Rattle.runs.proofs.Bodies.{drawn_none}
-use Rattle.runs.proofs.Moments.{last_same, Unopened, unopened_first, uncaught, Latch, caught}
-use Rattle.runs.proofs.Story.{Untouched, Story, truth, Kept, Tells, none_open}
-use Rattle.runs.proofs.Opening.{open_kept, opens_right, open_came, open_refuses}
-use Rattle.runs.proofs.Closing.{close_kept, closes_right, close_refuses, close_came, closes_own}
-use Rattle.runs.proofs.Nexting.{next_kept, next_reads, next_came, next_refuses}
-use Rattle.runs.proofs.Skipping.{skip_kept, skip_reads, skip_came, skip_refuses}
-use Rattle.de.specs.declared.pdu.Extent.{Extent}
+use Rattle.runs.specs.Law.{running, phase, open_pdu, for_good, count_after, GoesOn, Reads, Whole, PassesEvents, NothingLeft, IfRefused, ForGood, ForGoodOrRoom, Turn, Still, Suits, PduStory, StoryBy, Law}
+use Rattle.runs.proofs.Bodies.{drawn_none, has_ended, nothing_open}
+use Rattle.runs.proofs.Moments.{last_same, uncaught, latched_first, latches_of}
+use Rattle.runs.proofs.Turns.{asked, good_number, LeavesAll, leaves_all}
+use Rattle.runs.proofs.Story.{Stands, in_pdu, behind_it, off_it, Untouched, untouched_first, Story, truth, stays_inside, Kept, pdu_told, Tells}
+use Rattle.runs.proofs.Opening.{open_kept, opens_right, open_taken_up}
+use Rattle.runs.proofs.Closing.{close_kept, closes_right, close_asked, close_leaves}
+use Rattle.runs.proofs.Nexting.{next_kept, next_reads, next_taken_up, next_at_end, next_only_there}
+use Rattle.runs.proofs.Skipping.{skip_kept, skip_reads, skip_taken_up, skip_at_end, skip_only_there}
 
 -- moments told one after the other, from one state to another
 pub data Told (lends : Bool) (s : State) : List Moment → State → Type 0 where
@@ -31,7 +33,7 @@ pub data Told (lends : Bool) (s : State) : List Moment → State → Type 0 wher
 -- ---- what is kept
 
 kept_first : (lends : Bool) (v : View) → Kept lends v [] (fresh v)
-kept_first lends v = record { latch = uncaught (drawn_none lends v) tt; tale = inl (unopened_first, record { closed = refl; no_events = refl; no_bytes = refl }) }
+kept_first lends v = record { latch = uncaught (drawn_none lends v) refl; tale = inl (untouched_first v) }
 
 tells : {lends : Bool} {s t : State} {m : Moment} → Logged lends s m t → Tells m t
 tells l = record { events = l.told_events; bytes = l.told_bytes }
@@ -57,7 +59,7 @@ count_told : {lends : Bool} {v : View} {h : List Moment} {t : State} → Told le
 count_told none_yet = refl
 count_told {v = v} (told_more {h = h} m told l) = sym l.counts ∙ sym (count_last v.count h m)
 
--- ---- the call after what has passed
+-- ---- what holds of one call
 
 suits : {lends : Bool} {s t : State} (m : Moment) → Logged lends s m t → Suits m.call m.answer
 suits {lends} {s} {t} m l = go m.call l.made
@@ -89,29 +91,75 @@ suits {lends} {s} {t} m l = go m.call l.made
     go call.Skip made = skipped made.0.result made.0.answers
     go (call.Close e) made = closed e made.0.result made.0.answers
 
--- where no PDU is open every call but open is refused, and where a call was refused for good every call is
-refused : {lends : Bool} {s t : State} (m : Moment) → Logged lends s m t → ((o : Extent) → s.pdu ≡ Some o → s.latched ≡ None → ⊥) → (m.call ≡ call.Open → s.latched ≡ None → ⊥) → Refuses m.answer
-refused {lends} {s} {t} m l unable latched = go m.call refl l.made
+turn_right : {lends : Bool} {v : View} {h : List Moment} {s t : State} → Sound lends v → Kept lends v h s → (m : Moment) → Logged lends s m t → Turn lends (open_pdu (phase h)) (for_good h) m.call m.answer
+turn_right {lends} {v} {h} {s} {t} sound k m l = subst₂ (λ p o. Turn lends p o m.call m.answer) (pdu_told k) (latched_first k.latch) (go m.call refl l.made)
   where
-    go : (c : Call) → m.call ≡ c → MadeBy lends s c m.answer m.text t → Refuses m.answer
-    go call.Open is made = open_refuses (open_came made.0) (latched is)
-    go (call.Next room) is made = next_refuses (next_came made.0) unable
-    go call.Skip is made = skip_refuses (skip_came made.0) unable
-    go (call.Close e) is made = close_refuses (close_came made.0) unable
+    go : (c : Call) → m.call ≡ c → MadeBy lends s c m.answer m.text t → Turn lends s.pdu s.latched c m.answer
+    go call.Open is made = asked (open_taken_up sound k m t made.0)
+    go (call.Next room) is made = asked (next_taken_up k m is made.0)
+    go call.Skip is made = asked (skip_taken_up k m is made.0)
+    go (call.Close e) is made = close_asked k m is made.0
 
-goes_on : {lends : Bool} {v : View} {h : List Moment} {s t : State} (y : Story lends v h s) (m : Moment) → Logged lends s m t → GoesOn lends v y.start y.size y.phase y.es m
-goes_on {lends} {v} {h} {s} {t} y m l = record {
-  closes = λ on is. closes_right y on (subst (λ c. MadeBy lends s c m.answer m.text t) is l.made).0;
-  reads = λ on w whole. reads on w whole m.call l.made;
-  out_of_turn = λ off other. let none = none_open y off in refused m l (λ o own loose. absurd (cc)) (λ is loose. other is);
-  own = λ e k is closed. closes_own y (subst (λ c. MadeBy lends s c m.answer m.text t) is l.made).0 k closed;
+nothing_taken : {lends : Bool} {v : View} {h : List Moment} {s t : State} → Sound lends v → Kept lends v h s → (m : Moment) → Logged lends s m t →
+    s.body.reader.count ≡ count_after v.count h → Still (count_after v.count h) (for_good h) m
+nothing_taken {lends} {v} {h} {s} {t} sound k m l counts = record {
+  out_of_turn = λ f is few. let (place, body) = all.by_number f is few in (place ∙ counts, stays body);
+  again = λ f first. stays (all.for_good f (latched_first k.latch ∙ first));
+  closing = λ e is. stays (close_leaves k m is (subst (λ c. MadeBy lends s c m.answer m.text t) is l.made).0).0;
 }
   where
-    reads : y.phase ≡ running → (w : Value) → Whole lends v y.start y.size w → (c : Call) → MadeBy lends s c m.answer m.text t → Reads lends w y.es c m.answer
-    reads on w whole call.Open made = tt
-    reads on w whole (call.Next room) made = next_reads y on w whole made.0
-    reads on w whole call.Skip made = skip_reads y on w whole made.0
-    reads on w whole (call.Close e) made = tt
+    stays : t.body ≡ s.body → m.count ≡ count_after v.count h
+    stays same = l.counts ∙ ap (λ (b : Body). b.reader.count) same ∙ counts
+
+    latches : (f : Refusal) → s.latched ≡ Some f → ForGood f
+    latches f caught = latches_of k.latch caught
+
+    good : IfRefused ForGood m.answer → IfRefused (λ f. 3 ≤ number_of f.cause) m.answer
+    good known f is = good_number f.cause (known f is)
+
+    good_or_room : IfRefused (ForGoodOrRoom lends) m.answer → IfRefused (λ f. 3 ≤ number_of f.cause) m.answer
+    good_or_room known f is = by (known f is)
+      where
+        by : ForGoodOrRoom lends f → 3 ≤ number_of f.cause
+        by (inl latches) = good_number f.cause latches
+        by (inr (copies, full)) = omega arith
+
+    all : LeavesAll s t m.answer
+    all = go m.call refl l.made
+      where
+        go : (c : Call) → m.call ≡ c → MadeBy lends s c m.answer m.text t → LeavesAll s t m.answer
+        go call.Open is made = leaves_all latches good (open_taken_up sound k m t made.0)
+        go (call.Next room) is made = leaves_all latches good_or_room (next_taken_up k m is made.0)
+        go call.Skip is made = leaves_all latches good (skip_taken_up k m is made.0)
+        go (call.Close e) is made = (close_leaves k m is made.0).1
+
+goes_on : {lends : Bool} {v : View} {h : List Moment} {s t : State} → Kept lends v h s → (y : Story lends v h s) → phase h ≡ running (record { start = y.start; length = y.size }) →
+    (m : Moment) → Logged lends s m t →
+    GoesOn lends v y.start y.size (for_good h) y.es (y.start + length y.taken) m
+goes_on {lends} {v} {h} {s} {t} k y on m l = record {
+  closes = λ is. closes_right y on (latched_first k.latch) (subst (λ c. MadeBy lends s c m.answer m.text t) is l.made).0;
+  reads = λ w whole. reads w whole m.call l.made;
+  at_end = λ free w ended passing. at_end (latched_first k.latch ∙ free) (nothing_open y.passing w ended) m.call passing l.made;
+  only_there = λ left. has_ended y.passing (only_there m.call left l.made);
+}
+  where
+    reads : (w : Value) → Whole lends v y.start y.size w → (c : Call) → MadeBy lends s c m.answer m.text t → Reads lends w y.es c m.answer
+    reads w whole call.Open made = tt
+    reads w whole (call.Next room) made = next_reads y on w whole made.0
+    reads w whole call.Skip made = skip_reads y on w whole made.0
+    reads w whole (call.Close e) made = tt
+
+    at_end : s.latched ≡ None → s.body.opens ≡ [] → (c : Call) → PassesEvents c → MadeBy lends s c m.answer m.text t → NothingLeft c m.answer
+    at_end free closed call.Open passing made = absurd passing
+    at_end free closed (call.Next room) passing made = next_at_end room y on made.0 free closed
+    at_end free closed call.Skip passing made = skip_at_end y on made.0 free closed
+    at_end free closed (call.Close e) passing made = absurd passing
+
+    only_there : (c : Call) → NothingLeft c m.answer → MadeBy lends s c m.answer m.text t → s.body.opens ≡ []
+    only_there call.Open left made = absurd left
+    only_there (call.Next room) left made = next_only_there lends room s made.0 left
+    only_there call.Skip left made = skip_only_there k made.0 left
+    only_there (call.Close e) left made = absurd left
 
 -- ---- the law
 
@@ -160,25 +208,32 @@ pub lawful : {lends : Bool} {v : View} {told : List Moment} {t : State} → Soun
 lawful {lends} {v} sound all h m k e =
     let here = until all (h ++ (m ∷ [])) k (e ∙ sym (append_assoc h (m ∷ []) k)) in
     let (s, before, logged) = told_last here.told h m refl in
-    (suits m logged, story here (kept_all sound here.told).tale (let counts = logged.counts in counts) (tells logged), opens s before logged, after (kept_all sound before).latch refl logged)
+    record {
+      suits = suits m logged;
+      turn = turn_right sound (kept_all sound before) m logged;
+      still = nothing_taken sound (kept_all sound before) m logged (count_told before);
+      opens = λ is. opens_right sound (kept_all sound before) m here.state (count_told before) (subst (λ c. MadeBy lends s c m.answer m.text here.state) is logged.made).0;
+      story = by here (kept_all sound here.told) logged.counts (tells logged);
+    }
   where
-    story : (u : Until lends (fresh v) (h ++ (m ∷ [])) k) → (Unopened v (h ++ (m ∷ [])) × Untouched u.state) ⊎ Story lends v (h ++ (m ∷ [])) u.state → m.count ≡ u.state.body.reader.count →
-        Tells m u.state → AllIdle (h ++ (m ∷ [])) ⊎ PduStory lends v h m k
-    story u (inl (unopened, untouched)) counts tells = inl unopened.idle
-    story u (inr y) counts tells = inr (record {
-      start = y.start;
-      size = y.size;
-      phase = y.phase;
-      es = y.es;
-      at = _;
-      passed = y.tale.passed;
-      truthful = truth y m counts tells;
-      goes_on = λ n l is. goes_on y n (u.next n l is).1;
-    })
+    by : (u : Until lends (fresh v) (h ++ (m ∷ [])) k) → Kept lends v (h ++ (m ∷ [])) u.state → m.count ≡ u.state.body.reader.count → Tells m u.state → StoryBy (phase (h ++ (m ∷ []))) lends v h m k
+    by u kept counts tells = go kept.tale
+      where
+        pdu_story : (y : Story lends v (h ++ (m ∷ [])) u.state) → PduStory lends v h m k (record { start = y.start; length = y.size })
+        pdu_story y = record {
+          es = y.es;
+          at = _;
+          passed = y.passed;
+          truthful = truth y m (latched_first kept.latch) counts tells;
+          inside = λ not_left. rw counts (stays_inside y not_left);
+          goes_on = λ on n l is. goes_on kept y on n (u.next n l is).1;
+        }
 
-    opens : (s : State) → Told lends (fresh v) h s → {t : State} → Logged lends s m t → m.call ≡ call.Open → Opens v h m
-    opens s before {t} logged is = opens_right sound (kept_all sound before) m t (count_told before) (subst (λ c. MadeBy lends s c m.answer m.text t) is logged.made).0
+        by_phase : (y : Story lends v (h ++ (m ∷ [])) u.state) → Stands lends v y.start y.size y.taken y.es u.state (phase (h ++ (m ∷ []))) → StoryBy (phase (h ++ (m ∷ []))) lends v h m k
+        by_phase y (in_pdu is own i) = subst (λ p. StoryBy p lends v h m k) (sym is) (pdu_story y)
+        by_phase y (behind_it is shut n) = subst (λ p. StoryBy p lends v h m k) (sym is) (pdu_story y)
+        by_phase y (off_it is shut) = subst (λ p. StoryBy p lends v h m k) (sym is) (pdu_story y)
 
-    after : {s t : State} {o : Option Refusal} → Latch lends v h s.body.reader o → s.latched ≡ o → Logged lends s m t → Unlatched h ⊎ Refuses m.answer
-    after (uncaught drawn unlatched) is logged = inl unlatched
-    after (caught latches some) is logged = inr (refused m logged (λ o own loose. absurd (cc)) (λ call loose. absurd (cc)))
+        go : Untouched (h ++ (m ∷ [])) u.state ⊎ Story lends v (h ++ (m ∷ [])) u.state → StoryBy (phase (h ++ (m ∷ []))) lends v h m k
+        go (inl n) = subst (λ p. StoryBy p lends v h m k) (sym n.none) (n.idle h m refl)
+        go (inr y) = by_phase y y.stands

@@ -30,10 +30,12 @@ pub mod Stretching
 pub mod Heading
 pub mod Bodies
 pub mod Moments
+pub mod Turns
 pub mod Story
 pub mod Opening
 pub mod Closing
 pub mod Nexting
+pub mod SkipEnds
 pub mod Skipping
 pub mod Lawful
 pub mod Logging

@@ -96,7 +96,7 @@ module _ (lends : Bool) (end : Option ℕ) (v : View) (octets : Octets v.coming)
       })
 
 module _ (lends : Bool) (end : Option ℕ) (v : View) (octets : Octets v.coming) where
-  pub tagged_int_reads : Comes (IntegerRead lends end v) (Failed end v) (tagged_int_read lends end v)
+  tagged_int_reads : Comes (IntegerRead lends end v) (Failed end v) (tagged_int_read lends end v)
   unfolding tagged_int_read
   tagged_int_reads =
       then_comes (Peeked lends end v) (Failed end v) (IntegerRead lends end v) (Failed end v) (peek_read end v) (λ t w. behind_tag lends end (int_width t) w) (peek_reads lends end v)
@@ -110,7 +110,7 @@ module _ (lends : Bool) (end : Option ℕ) (v : View) (octets : Octets v.coming)
           numbers (got z u) n = record { width = k; fits = n.fits; gotten = gotten_as (ap (λ t. t ∷ digits (bytes_of k) (bits_of k z)) is) (gotten_more s.gotten n.gotten) }
           numbers (bad e u) n = failed_behind s.gotten n
 
-  pub count_reads : Comes (CountRead lends end v) (Failed end v) (count_read lends end v)
+  count_reads : Comes (CountRead lends end v) (Failed end v) (count_read lends end v)
   unfolding count_read count_encoding
   count_reads =
       then_comes (IntegerRead lends end v) (Failed end v) (CountRead lends end v) (Failed end v) (tagged_int_read lends end v) (λ z w. told_as (count_of z) w) tagged_int_reads by_sign (λ e w f. f)

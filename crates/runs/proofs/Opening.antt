@@ -1,7 +1,6 @@
--- A call of open: what it keeps, and when it accepts.
+-- A call of open: what it keeps, when it accepts, and when it is tried at all.
 use Rattle.std.proofs.Common.{◌≡◌, ℕ, ◌+◌, Bool, true, false, List, [], ◌∷◌, ◌++◌, length, Some, None, Option, Result, ◌⊎◌, inl, inr, refl, sym, ap, ◌∙◌, subst, arith}
 use Rattle.read.specs.Reader.{View, Sound}
-use Rattle.format.specs.Numbers.{latching}
 use Rattle.format.specs.declared.refusal.Refusal.{Refusal}
 use Rattle.format.specs.declared.refusal.Cause.TheVariants as cause
 use Rattle.values.specs.Limits.{RoomForKeyBytes}
@@ -17,16 +16,17 @@ use Rattle.de.specs.declared.entry.Answer.{Answer}
 use Rattle.de.specs.declared.entry.Answer.TheVariants as answer
 use Rattle.de.specs.Calls.{State, Meets, Off, telling, latch, here, opened, unopened, open_by, open_turn, open_call, unless_latched}
 use Rattle.de.specs.Made.{Moment, Made, OpenAnswer}
-use Rattle.runs.specs.Law.{from, limits, Phase, running, over, left, phase_after, RefusedAgrees, Passed, KeptOpen, Unlatched, NoneOpen, count_after, HeaderAt, Opens, Refuses}
+use Rattle.runs.specs.Law.{all_bytes, from, limits, Phase, none_yet, running, over, left, open_phase, phase, phase_after, open_pdu, first_for_good, for_good, RefusedAgrees, opens, count_after, HeaderAt, Opens, IfRefused, ForGood, none_open}
 use Rattle.runs.proofs.Reached.{reached_first}
 use Rattle.runs.proofs.Taking.{none_taken}
 use Rattle.runs.proofs.Stepped.{Solid}
 use Rattle.runs.proofs.Took.{solid_on}
 use Rattle.runs.proofs.Reading.{Comes, Halted}
 use Rattle.runs.proofs.Heading.{Headed, from_here, header_reads, header_there}
-use Rattle.runs.proofs.Bodies.{all_bytes, Drawn, drawn_more, from_count, Live, passing_of, passing_still}
-use Rattle.runs.proofs.Moments.{tale_opens, Unopened, unopened_more, drawn_of, unlatched_of, none_latched, latch_none, latch_some, agrees_refused, as_told, latched_by, refuses_as}
-use Rattle.runs.proofs.Story.{goes_on, Stands, in_pdu, behind_it, off_it, Story, story_still, Untouched, Kept, Tells, idle_refused, quiet}
+use Rattle.runs.proofs.Bodies.{Drawn, drawn_more, from_count, Live, passing_of, passing_still}
+use Rattle.runs.proofs.Moments.{phase_last, drawn_of, latched_first, latch_none, latch_some, agrees_refused, as_told, latched_by}
+use Rattle.runs.proofs.Turns.{Untried, again, out_of_turn, untried_free, TakenUp, untried, tried, known_of}
+use Rattle.runs.proofs.Story.{goes_on, Stands, in_pdu, behind_it, off_it, Story, story_still, Untouched, untouched_on, Kept, pdu_told, Tells, quiet}
 
 solid_first : {lends : Bool} {v : View} → Sound lends v → Solid lends (all_bytes v) v
 solid_first s = record { octets = s.octets; kept_all = s.kept_all; whole = λ e. refl }
@@ -55,61 +55,30 @@ room_at_first : (lends : Bool) → RoomForKeyBytes (limits lends) 0
 room_at_first true = tt
 room_at_first false = omega arith
 
--- ---- whether a PDU is open
-
-none_is_open : {lends : Bool} {v : View} {h : List Moment} {s : State} → Kept lends v h s → s.pdu ≡ None → NoneOpen v h
-none_is_open {lends} {v} {h} {s} k e start size es c passed = go k.tale
-  where
-    shut : {begun long : ℕ} {taken : List ℕ} {fs : List Event} {p : Phase} → Stands lends v begun long taken fs s p → running ≡ p → ⊥
-    shut (in_pdu o l) is = absurd (cc)
-    shut (behind_it n i) is = absurd (cc)
-    shut (off_it n) is = absurd (cc)
-
-    go : (Unopened v h × Untouched s) ⊎ Story lends v h s → ⊥
-    go (inl (u, n)) = u.never start size running es c passed
-    go (inr y) = shut y.stands (y.tale.only start size running es c passed)
-
-not_open : {lends : Bool} {v : View} {h : List Moment} {s : State} → Kept lends v h s → NoneOpen v h → s.pdu ≡ None
-not_open {lends} {v} {h} {s} k none = go k.tale
-  where
-    shut : {begun long : ℕ} {taken : List ℕ} {fs : List Event} {p : Phase} {c : ℕ} → Stands lends v begun long taken fs s p → Passed v h begun long p fs c → s.pdu ≡ None
-    shut (in_pdu o l) passed = absurd (none _ _ _ _ passed)
-    shut (behind_it n i) passed = n
-    shut (off_it n) passed = n
-
-    go : (Unopened v h × Untouched s) ⊎ Story lends v h s → s.pdu ≡ None
-    go (inl (u, n)) = n.closed
-    go (inr y) = shut y.stands y.tale.passed
-
 -- ---- what a call of open comes to
 
 pub data OpenCame (lends : Bool) (s t : State) (a : Answer) : Type 0 where
-  opens : s.latched ≡ None → s.pdu ≡ None → (e : Header) (w : View) → header_read lends s.body.reader ≡ got e w → a ≡ answer.Opened e → t ≡ opened s e w → OpenCame lends s t a
+  begins : s.latched ≡ None → s.pdu ≡ None → (e : Header) (w : View) → header_read lends s.body.reader ≡ got e w → a ≡ answer.Opened e → t ≡ opened s e w → OpenCame lends s t a
   refuses : s.latched ≡ None → s.pdu ≡ None → (f : Refusal) (w : View) → header_read lends s.body.reader ≡ bad f w → a ≡ answer.Refused f → Off f (latch f (unopened s w)) t → OpenCame lends s t a
-  tells_again : (f : Refusal) → a ≡ answer.Refused f → t ≡ telling f s → (s.latched ≡ None → (latching f.cause ≡ false) × (s.pdu ≡ None → ⊥)) → OpenCame lends s t a
+  tells_again : (f : Refusal) → a ≡ answer.Refused f → t ≡ telling f s → Untried s (none_open s.pdu) f → OpenCame lends s t a
 
-pub open_came : {lends : Bool} {s t : State} {a : Answer} → Made (Meets (open_call lends s)) OpenAnswer a t → OpenCame lends s t a
+open_came : {lends : Bool} {s t : State} {a : Answer} → Made (Meets (open_call lends s)) OpenAnswer a t → OpenCame lends s t a
 open_came {lends} {s} {t} {a} made = by_latch s.latched refl made.meets
   where
     answers : {r : Result PduInfo Refused} → made.result ≡ r → OpenAnswer r t a
     answers e = subst (λ r. OpenAnswer r t a) e made.answers
 
     by_read : s.latched ≡ None → s.pdu ≡ None → (o : Outcome Refusal Header) → header_read lends s.body.reader ≡ o → Meets (open_by o s) made.result t → OpenCame lends s t a
-    by_read loose shut (got e w) read (gave, same) = opens loose shut e w read (answers gave) same
+    by_read loose shut (got e w) read (gave, same) = begins loose shut e w read (answers gave) same
     by_read loose shut (bad f w) read (gave, off) = refuses loose shut f w read (as_told off.refused (answers gave)) off
 
     by_pdu : s.latched ≡ None → (p : Option Extent) → s.pdu ≡ p → Meets (open_turn p lends s) made.result t → OpenCame lends s t a
     by_pdu loose None shut meets = by_read loose shut (header_read lends s.body.reader) refl meets
-    by_pdu loose (Some e) shut (gave, same) = tells_again (here cause.OutOfTurn s) (as_told (ap (λ t. t.refused) same) (answers gave)) same (λ e. (refl, λ none. absurd (cc)))
+    by_pdu loose (Some e) shut (gave, same) = tells_again (here cause.OutOfTurn s) (as_told (ap (λ t. t.refused) same) (answers gave)) same (out_of_turn loose (ap none_open shut) refl)
 
     by_latch : (o : Option Refusal) → s.latched ≡ o → Meets (unless_latched o s (open_turn s.pdu lends s)) made.result t → OpenCame lends s t a
     by_latch None loose meets = by_pdu loose s.pdu refl meets
-    by_latch (Some f) caught (gave, same) = tells_again f (as_told (ap (λ t. t.refused) same) (answers gave)) same (λ e. absurd (cc))
-
-pub open_refuses : {lends : Bool} {s t : State} {a : Answer} → OpenCame lends s t a → (s.latched ≡ None → ⊥) → Refuses a
-open_refuses (opens loose shut e w read a same) caught = absurd (caught loose)
-open_refuses (refuses loose shut f w read a off) caught = refuses_as a
-open_refuses (tells_again f a same free) caught = refuses_as a
+    by_latch (Some f) caught (gave, same) = tells_again f (as_told (ap (λ t. t.refused) same) (answers gave)) same (again caught)
 
 module _ {lends : Bool} {v : View} {h : List Moment} {s : State} (sound : Sound lends v) (k : Kept lends v h s) (m : Moment) (t : State) where
   -- what the read of the header comes to
@@ -118,22 +87,22 @@ module _ {lends : Bool} {v : View} {h : List Moment} {s : State} (sound : Sound 
 
   -- ---- what it keeps
 
-  accepted_kept : s.latched ≡ None → (e : Header) (w : View) → header_read lends s.body.reader ≡ got e w → m.answer ≡ answer.Opened e → m.count ≡ (opened s e w).body.reader.count →
+  accepted_kept : s.latched ≡ None → m.call ≡ call.Open → (e : Header) (w : View) → header_read lends s.body.reader ≡ got e w → m.answer ≡ answer.Opened e →
+      m.count ≡ (opened s e w).body.reader.count →
       Kept lends v (h ++ (m ∷ [])) (opened s e w)
-  accepted_kept loose e w read a counts = record {
-    latch = latch_none h m refl drawn (unlatched_of k.latch loose) (subst KeptOpen (sym a) tt);
+  accepted_kept loose is e w read a counts = record {
+    latch = latch_none h m refl drawn (sym (latched_first k.latch) ∙ loose) (ap (first_for_good None) a);
     tale = inr (record {
       start = e.start;
       size = e.length;
-      phase = running;
       taken = [];
       es = [];
-      tale = rw at_start (tale_opens h m a (counts ∙ headed.starts));
+      passed = rw at_start (opens h m a (counts ∙ headed.starts));
       passing = passing_of live;
       small = headed.header.bounded;
       last = refl;
       after = let starts = headed.starts in omega arith;
-      stands = in_pdu refl (goes_on live);
+      stands = in_pdu (phase_last none_yet h m ∙ ap (λ c. phase_after (phase h) c m.answer) is ∙ ap (open_phase (phase h)) a) refl (goes_on live);
     });
   }
     where
@@ -162,7 +131,7 @@ module _ {lends : Bool} {v : View} {h : List Moment} {s : State} (sound : Sound 
 
   refused_kept : s.latched ≡ None → s.pdu ≡ None → m.call ≡ call.Open → (f : Refusal) (w : View) → header_read lends s.body.reader ≡ bad f w → m.answer ≡ answer.Refused f →
       Off f (latch f (unopened s w)) t → Tells m t → Kept lends v (h ++ (m ∷ [])) t
-  refused_kept loose shut is f w read a off tells = record { latch = latch_some h m latched a un.latches; tale = go k.tale }
+  refused_kept loose shut is f w read a off tells = record { latch = latch_some h m latched (sym (latched_first k.latch) ∙ loose) a un.latches; tale = go k.tale }
     where
       un : Halted None s.body.reader f w
       un = header_came loose read
@@ -170,39 +139,37 @@ module _ {lends : Bool} {v : View} {h : List Moment} {s : State} (sound : Sound 
       latched : t.latched ≡ Some f
       latched = off.latched ∙ latched_by s.latched un.latches
 
-      gone : {start size : ℕ} {taken : List ℕ} {es : List Event} {p : Phase} → Stands lends v start size taken es s p → phase_after p m.call m.answer ≡ left
-      gone (in_pdu o l) = absurd (cc)
-      gone (behind_it n i) = ap (λ c. phase_after over c m.answer) is
-      gone (off_it n) = refl
+      gone : {start size : ℕ} {taken : List ℕ} {es : List Event} {p : Phase} → Stands lends v start size taken es s p → phase_after p m.call m.answer ≡ left (record { start = start; length = size })
+      gone (in_pdu on o l) = absurd (cc)
+      gone {p = p} (behind_it on n i) = ap (λ c. phase_after p c m.answer) is ∙ ap (λ p. open_phase p m.answer) on ∙ ap (open_phase (over _)) a
+      gone {p = p} (off_it on n) = ap (λ c. phase_after p c m.answer) is ∙ ap (λ p. open_phase p m.answer) on ∙ ap (open_phase (left _)) a
 
-      go : (Unopened v h × Untouched s) ⊎ Story lends v h s → (Unopened v (h ++ (m ∷ [])) × Untouched t) ⊎ Story lends v (h ++ (m ∷ [])) t
-      go (inl (u, n)) =
-          let still : Untouched t = record { closed = off.pdu ∙ n.closed; no_events = off.body.events ∙ n.no_events; no_bytes = off.last ∙ n.no_bytes } in
-          inl (unopened_more m u (idle_refused m t still a tells), still)
+      go : Untouched h s ⊎ Story lends v h s → Untouched (h ++ (m ∷ [])) t ⊎ Story lends v (h ++ (m ∷ [])) t
+      go (inl u) = inl (untouched_on u m t a off.pdu off.body.events off.last tells)
       go (inr y) =
           let c = y.start + length y.taken in
-          inr (story_still y m t (agrees_refused v m c a (subst (λ k. RefusedAgrees k f [] c c) (sym is) (refl, refl))) (passing_still y.passing off.body.opens off.body.events) off.last
-          (rw latched (let after = rw loose at y.after in let place = un.after in omega arith)) (rw (gone y.stands) (off_it (off.pdu ∙ shut))))
+          inr (story_still y m t (agrees_refused lends v m c a (subst (λ k. RefusedAgrees k f [] c c) (sym is) (refl, refl))) (passing_still y.passing off.body.opens off.body.events) off.last
+          (rw latched (let after = rw loose at y.after in let place = un.after in omega arith)) (off_it (gone y.stands) (off.pdu ∙ shut)))
 
   pub open_kept : m.call ≡ call.Open → Made (Meets (open_call lends s)) OpenAnswer m.answer t → m.count ≡ t.body.reader.count → Tells m t → Kept lends v (h ++ (m ∷ [])) t
   open_kept is made counts tells = go (open_came made)
     where
       go : OpenCame lends s t m.answer → Kept lends v (h ++ (m ∷ [])) t
-      go (opens loose shut e w read a same) = subst (λ t. Kept lends v (h ++ (m ∷ [])) t) (sym same) (accepted_kept loose e w read a (counts ∙ ap (λ t. t.body.reader.count) same))
+      go (begins loose shut e w read a same) = subst (λ t. Kept lends v (h ++ (m ∷ [])) t) (sym same) (accepted_kept loose is e w read a (counts ∙ ap (λ t. t.body.reader.count) same))
       go (refuses loose shut f w read a off) = refused_kept loose shut is f w read a off tells
-      go (tells_again f a same free) = quiet m f k same a (λ e. (free e).0) (ap (λ c. phase_after running c m.answer) is) (λ c i. subst (λ k. RefusedAgrees k f [] c c) (sym is) (refl, refl)) tells
+      go (tells_again f a same free) = quiet m f k same a (untried_free free) (λ e. ap (λ c. phase_after (running e) c (answer.Refused f)) is) (λ c i. subst (λ k. RefusedAgrees k f [] c c) (sym is) (refl, refl)) tells
 
   -- ---- when it accepts
 
   pub opens_right : s.body.reader.count ≡ count_after v.count h → Made (Meets (open_call lends s)) OpenAnswer m.answer t → Opens v h m
-  opens_right counts made = record { accepts = λ unlatched none caps start size header. accepts unlatched none caps start size header (open_came made); accepted = λ caps start size a. accepted caps start size a (open_came made) }
+  opens_right counts made = record { accepts = λ loose shut caps start size header. accepts loose shut caps start size header (open_came made); accepted = λ caps start size a. accepted caps start size a (open_came made) }
     where
-      accepts : Unlatched h → NoneOpen v h → (caps start size : ℕ) → HeaderAt v (count_after v.count h) caps start size → OpenCame lends s t m.answer →
+      accepts : for_good h ≡ None → open_pdu (phase h) ≡ None → (caps start size : ℕ) → HeaderAt v (count_after v.count h) caps start size → OpenCame lends s t m.answer →
           m.answer ≡ answer.Opened (record { capabilities = caps; start = start; length = size })
       accepts unlatched none caps start size header came = by came
         where
           free : s.latched ≡ None
-          free = none_latched k.latch unlatched
+          free = latched_first k.latch ∙ unlatched
 
           there : (w : View) × (header_read lends s.body.reader ≡ got (record { capabilities = caps; start = start; length = size }) w)
           there =
@@ -210,20 +177,31 @@ module _ {lends : Bool} {v : View} {h : List Moment} {s : State} (sound : Sound 
               header_there lends s.body.reader caps start size (same_header {v = v} {w = s.body.reader} (same_bytes drawn) (sym drawn.took.stop) (rw counts header))
 
           by : OpenCame lends s t m.answer → m.answer ≡ answer.Opened (record { capabilities = caps; start = start; length = size })
-          by (opens loose shut e w read a same) = let both = sym read ∙ there.1 in let header : e ≡ record { capabilities = caps; start = start; length = size } = cc in a ∙ ap answer.Opened header
+          by (begins loose shut e w read a same) = let both = sym read ∙ there.1 in let header : e ≡ record { capabilities = caps; start = start; length = size } = cc in a ∙ ap answer.Opened header
           by (refuses loose shut f w read a off) = let both = sym read ∙ there.1 in absurd (cc)
-          by (tells_again f a same why) = absurd ((why free).1 (not_open k none))
+          by (tells_again f a same (again caught)) = let both = sym free ∙ caught in absurd (cc)
+          by (tells_again f a same (out_of_turn loose own is)) = let both = sym own ∙ ap none_open (pdu_told k ∙ none) in absurd (cc)
 
       accepted : (caps start size : ℕ) → m.answer ≡ answer.Opened (record { capabilities = caps; start = start; length = size }) → OpenCame lends s t m.answer →
-          Unlatched h × NoneOpen v h × HeaderAt v (count_after v.count h) caps start size
-      accepted caps start size a (opens loose shut e w read b same) =
+          (for_good h ≡ None) × (open_pdu (phase h) ≡ None) × HeaderAt v (count_after v.count h) caps start size
+      accepted caps start size a (begins loose shut e w read b same) =
           let drawn = drawn_of k.latch loose in
           let headed = header_came loose read in
           let header : e ≡ record { capabilities = caps; start = start; length = size } = cc in (
-            unlatched_of k.latch loose,
-            none_is_open k shut,
+            sym (latched_first k.latch) ∙ loose,
+            sym (pdu_told k) ∙ shut,
             rw (← counts)
                 (subst (λ (e : Header). HeaderAt v s.body.reader.count e.capabilities e.start e.length) header (same_header {v = s.body.reader} {w = v} (sym (same_bytes drawn)) drawn.took.stop headed.header)),
           )
       accepted caps start size a (refuses loose shut f w read b off) = absurd (cc)
       accepted caps start size a (tells_again f b same free) = absurd (cc)
+
+  -- ---- when it is tried
+
+  pub open_taken_up : Made (Meets (open_call lends s)) OpenAnswer m.answer t → TakenUp s t (none_open s.pdu) (IfRefused ForGood m.answer) m.answer
+  open_taken_up made = go (open_came made)
+    where
+      go : OpenCame lends s t m.answer → TakenUp s t (none_open s.pdu) (IfRefused ForGood m.answer) m.answer
+      go (begins loose shut e w read a same) = tried loose (ap none_open shut) (λ f is. absurd (cc))
+      go (refuses loose shut f w read a off) = let halted = header_came loose read in tried loose (ap none_open shut) (known_of ForGood a halted.latches)
+      go (tells_again f a same why) = untried f a same why

@@ -135,7 +135,7 @@ module _ {A : Type 0} (gave : A → View → Type 0) (lends : Bool) (end : Optio
 
 -- a byte is shown, and may then be taken
 pub record Peeked (lends : Bool) (end : Option ℕ) (v : View) (t : ℕ) (w : View) : Type 0 where
-  pub held_only : w ≡ held v
+  held_only : w ≡ held v
   pub gotten : Gotten lends end v (discarded lends w) (t ∷ [])
 
 -- what is held only is still to come

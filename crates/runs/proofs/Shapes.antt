@@ -122,7 +122,7 @@ Shape L (cell l ks n ∷ s) b e t = Comes L true (cell l ks n ∷ s) b e t
 -- where a value is wanted, an item comes
 pub record ItemWanted (L : Limits) (s : List Level) (b : List ℕ) (e : Event) (t : List Level) : Type 0 where
   pub may_gap : Bool
-  pub to_shape : Comes L may_gap s b e t → Shape L s b e t
+  to_shape : Comes L may_gap s b e t → Shape L s b e t
   pub to_item : Shape L s b e t → Comes L may_gap s b e t
 
 pub item_wanted : (L : Limits) (s : List Level) {b : List ℕ} {e : Event} {t : List Level} → Wants s → ItemWanted L s b e t

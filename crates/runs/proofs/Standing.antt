@@ -68,13 +68,13 @@ module _ {end : Option ℕ} {v : View} (a b : List ℕ) {rest : List ℕ} (s : S
         before_stop = ap (λ o. past o (w.count + length b)) h.stop ∙ ap (past v.stop) far ∙ s.before_stop;
       }
 
-pub behind_both : {v w u : View} (a b : List ℕ) {rest : List ℕ} → Behind v a (b ++ rest) w → Behind w b rest u → Behind v (a ++ b) rest u
+behind_both : {v w u : View} (a b : List ℕ) {rest : List ℕ} → Behind v a (b ++ rest) w → Behind w b rest u → Behind v (a ++ b) rest u
 behind_both a b h k = record { coming = k.coming; count = omega (arith, length-append a b, h.count, k.count); stop = k.stop ∙ h.stop }
 
-pub behind_none : (v : View) {rest : List ℕ} → v.coming ≡ rest → Behind v [] rest v
+behind_none : (v : View) {rest : List ℕ} → v.coming ≡ rest → Behind v [] rest v
 behind_none v e = record { coming = e; count = omega arith; stop = refl }
 
-pub gives_by : {E A : Type 0} {m n : Outcome E A} {x : A} {v : View} {bs rest : List ℕ} → m ≡ n → Gives n x v bs rest → Gives m x v bs rest
+gives_by : {E A : Type 0} {m n : Outcome E A} {x : A} {v : View} {bs rest : List ℕ} → m ≡ n → Gives n x v bs rest → Gives m x v bs rest
 gives_by e g = record { left = g.left; is = e ∙ g.is; behind = g.behind }
 
 -- a read, and then another
@@ -140,13 +140,13 @@ module _ {end : Option ℕ} {v : View} (t : ℕ) (bs : List ℕ) {rest : List �
       ap (λ o. answer o v (get_or v.coming 0 0) (held v)) (asked_room None (t ∷ []) 1 false refl refl (stands_front (t ∷ []) bs s))
       ∙ ap (λ l. got (get_or l 0 0) (held v)) s.coming
 
-  pub behind_tag_byte : (lends : Bool) → Behind v (t ∷ []) (bs ++ rest) (discarded lends (held v))
+  behind_tag_byte : (lends : Bool) → Behind v (t ∷ []) (bs ++ rest) (discarded lends (held v))
   behind_tag_byte lends = record { coming = ap (drop 1) s.coming; count = refl; stop = refl }
 
   pub stands_behind_tag : (lends : Bool) → Stands end (discarded lends (held v)) bs rest
   stands_behind_tag lends = stands_back (t ∷ []) bs s (behind_tag_byte lends)
 
-  pub tag_gives : {E A : Type 0} (lends : Bool) {m : Outcome E A} {x : A} → Gives m x (discarded lends (held v)) bs rest → Gives m x v (t ∷ bs) rest
+  tag_gives : {E A : Type 0} (lends : Bool) {m : Outcome E A} {x : A} → Gives m x (discarded lends (held v)) bs rest → Gives m x v (t ∷ bs) rest
   tag_gives lends g = record { left = g.left; is = g.is; behind = behind_both (t ∷ []) bs (behind_tag_byte lends) g.behind }
 
 -- ---- numbers
@@ -171,7 +171,7 @@ int_width_is W16 = refl
 int_width_is W32 = refl
 int_width_is W64 = refl
 
-pub tagged_int_gives : (lends : Bool) {end : Option ℕ} {v : View} (w : Width) (z : ℤ) {rest : List ℕ} → Fits w z → Stands end v (int_encoding w z) rest → Gives (tagged_int_read lends end v) z v (int_encoding w z) rest
+tagged_int_gives : (lends : Bool) {end : Option ℕ} {v : View} (w : Width) (z : ℤ) {rest : List ℕ} → Fits w z → Stands end v (int_encoding w z) rest → Gives (tagged_int_read lends end v) z v (int_encoding w z) rest
 unfolding tagged_int_read
 tagged_int_gives lends {end} {v} w z f s =
     let behind = digits (bytes_of w) (bits_of w z) in
@@ -179,7 +179,7 @@ tagged_int_gives lends {end} {v} w z f s =
     (ap (λ m. and_then m (λ t u. behind_tag lends end (int_width t) u)) (peek_gives (int_tag w) behind s) ∙ ap (λ r. behind_tag lends end r (held v)) (int_width_is w))
     (tag_gives (int_tag w) behind s lends (int_gives lends w z f (stands_behind_tag (int_tag w) behind s lends)))
 
-pub count_gives : (lends : Bool) {end : Option ℕ} {v : View} (w : Width) (n : ℕ) {rest : List ℕ} → Fits w (pos n) → Stands end v (count_encoding w n) rest → Gives (count_read lends end v) n v (count_encoding w n) rest
+count_gives : (lends : Bool) {end : Option ℕ} {v : View} (w : Width) (n : ℕ) {rest : List ℕ} → Fits w (pos n) → Stands end v (count_encoding w n) rest → Gives (count_read lends end v) n v (count_encoding w n) rest
 unfolding count_read count_encoding
 count_gives lends {end} {v} w n f s =
     let g = tagged_int_gives lends w (pos n) f s in
@@ -209,10 +209,10 @@ in_key_room_gives p g = record { left = g.left; is = ap (in_key_room p) g.is; be
 -- a key goes to key room, and the bytes of its column are counted of a reader that copies
 pub record KeyGives (lends : Bool) (end : Option ℕ) (held_now : ℕ) (k : Key) (v : View) (rest : List ℕ) : Type 0 where
   pub column : Column
-  pub copied_bytes : lends ≡ false → column_bytes (column ∷ []) ≡ length k.name
+  copied_bytes : lends ≡ false → column_bytes (column ∷ []) ≡ length k.name
   pub gives : Gives (key_read lends end held_now v) column v (key_encoding k) rest
 
-pub key_gives : (lends : Bool) {end : Option ℕ} (held_now : ℕ) (k : Key) {v : View} {rest : List ℕ} → KeyFormed k → cramped (key_space lends held_now) (length k.name) ≡ false → Stands end v (key_encoding k) rest →
+key_gives : (lends : Bool) {end : Option ℕ} (held_now : ℕ) (k : Key) {v : View} {rest : List ℕ} → KeyFormed k → cramped (key_space lends held_now) (length k.name) ≡ false → Stands end v (key_encoding k) rest →
     KeyGives lends end held_now k v rest
 unfolding key_read
 key_gives lends {end} held_now k {v} {rest} f room s =
@@ -247,7 +247,7 @@ pub record KeysGive (m : Outcome Refusal (List Column)) (ks : List Key) (v : Vie
   pub all : length columns ≡ length ks
   pub gives : Gives m columns v bs rest
 
-pub keys_give : (lends : Bool) {end : Option ℕ} (held_now : ℕ) (ks : List Key) {v : View} {rest : List ℕ} → KeysFormed ks → RoomForKeyBytes (limits lends) (held_now + key_bytes ks) → Stands end v (keys_encoding ks) rest →
+keys_give : (lends : Bool) {end : Option ℕ} (held_now : ℕ) (ks : List Key) {v : View} {rest : List ℕ} → KeysFormed ks → RoomForKeyBytes (limits lends) (held_now + key_bytes ks) → Stands end v (keys_encoding ks) rest →
     KeysGive (keys_read lends end held_now (length ks) v) ks v (keys_encoding ks) rest
 keys_give lends held_now [] {v} f room s = record { columns = []; all = refl; gives = record { left = v; is = refl; behind = behind_none v s.coming } }
 keys_give lends {end} held_now (k ∷ ks) {v} {rest} f room s =

@@ -10,8 +10,8 @@ use Rattle.format.specs.declared.refusal.ReadError.TheVariants as error
 use Rattle.values.specs.Values as value
 use Rattle.de.specs.declared.event.Event.{Event}
 use Rattle.de.specs.Shown.{shown}
-use Rattle.de.specs.Steps.{Body, gives, stops, counted, step}
-use Rattle.runs.specs.Law.{limits, hands_out}
+use Rattle.de.specs.Steps.{Body, gives, stops, counted, text_space, step}
+use Rattle.runs.specs.Law.{HandedOut, limits, hands_out}
 use Rattle.room.specs.Open.{bytes_held}
 use Rattle.values.specs.Limits.{RoomForKeyBytes}
 use Rattle.runs.proofs.Taking.{levels, Fit, Takes, Front, Waits, names_long}
@@ -49,6 +49,7 @@ pub record Stepped (lends : Bool) (input : List ℕ) (b : Body) (e : Event) (c :
   pub events : c.events ≡ counted b.events
   pub takes : (front : List ℕ) → Front b.unread front → Takes (limits lends) (levels input b.opens) (front ++ bytes) says (levels input c.opens)
   pub ready : Ready lends input c
+  pub origin : HandedOut lends e
   pub shows : (buf : List ℕ) → shown input (fronted x buf) e ≡ says
 
 -- the buffer is too short: the tag and the length of a text are taken, and the text is awaited
@@ -58,8 +59,12 @@ pub record Waiting (lends : Bool) (input : List ℕ) (b c : Body) : Type 0 where
   pub front : (front : List ℕ) → Front b.unread front → Front c.unread (front ++ bytes)
   pub ready : Ready lends input c
 
+-- the refusal is for good; or it is for want of room in the buffer of a copying reader, and a text is awaited
+abbrev pub ForGoodOrWaits : Bool → List ℕ → Option ℕ → Refusal → Body → Body → Type 0
+ForGoodOrWaits lends input space f b c = (latching f.cause ≡ true) ⊎ ((f.cause ≡ cause.Read error.Room) × (text_space lends space ≡ None → ⊥) × Waiting lends input b c)
+
 -- a refusal
-pub record Stopped (lends : Bool) (input : List ℕ) (b : Body) (f : Refusal) (c : Body) : Type 0 where
+pub record Stopped (lends : Bool) (input : List ℕ) (space : Option ℕ) (b : Body) (f : Refusal) (c : Body) : Type 0 where
   pub after : b.reader.count ≤ f.place
   pub end : c.end ≡ b.end
   pub opens : c.opens ≡ b.opens
@@ -67,7 +72,7 @@ pub record Stopped (lends : Bool) (input : List ℕ) (b : Body) (f : Refusal) (c
   pub inside : past b.end b.reader.count ≡ false → past b.end c.reader.count ≡ false
   -- the value has not ended
   pub more : b.opens ≡ [] → ⊥
-  pub kind : (latching f.cause ≡ true) ⊎ ((f.cause ≡ cause.Read error.Room) × Waiting lends input b c)
+  pub kind : ForGoodOrWaits lends input space f b c
 
 -- so many bytes stay before the declared end and the reader's stop
 pub record Clear (b : Body) (n : ℕ) : Type 0 where

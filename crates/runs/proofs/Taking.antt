@@ -1,5 +1,5 @@
 -- One event as a relation: what is open, the bytes that it is read from, the event, and what is open then.
-use Rattle.std.proofs.Common.{◌≡◌, ℕ, zero, suc, ◌+◌, Bool, true, false, ◌⊎◌, List, [], ◌∷◌, ◌++◌, length, take, drop, ℤ, pos, Some, None, Option}
+use Rattle.std.proofs.Common.{◌≡◌, ℕ, zero, suc, ◌+◌, Bool, true, false, ◌⊎◌, List, [], ◌∷◌, ◌++◌, length, take, drop, ℤ, pos, Some, None, Option, refl, arith}
 use Rattle.format.specs.declared.width.Width.{Width}
 use Rattle.values.specs.Values.{Value, null, yes_value, no_value, integer, real, bytes, text, Key, Event, array_begin, array_end, map_begin, map_end, key, an_integer, a_real, some_bytes, some_text, is_true, is_false, is_null, absent, encoding, count_encoding, key_encoding, keys_encoding, Formed, Fits, KeyFormed, KeysFormed}
 use Rattle.values.specs.Limits.{Limits, LevelFree, RoomForKeys, RoomForKeyBytes, RowsKeyed, key_bytes}
@@ -124,6 +124,11 @@ Tagged kind.Key t = (t ≡ 0x02) ⊎ (t ≡ 0x0d)
 pub data Front : Option Unread → List ℕ → Type 0 where
   none_taken : Front None []
   head_taken : {k : TextKind} {n : ℕ} (t : ℕ) (w : Width) → Tagged k t → Fits w (pos n) → Front (Some (record { kind = k; len = n })) (t ∷ count_encoding w n)
+
+-- where no text is awaited, nothing was taken
+pub none_ahead : {u : Option Unread} {front : List ℕ} → Front u front → u ≡ None → front ≡ []
+none_ahead none_taken e = refl
+none_ahead (head_taken t w g f) e = let z : ◌≡◌ {A = ℕ} 0 1 = cc in absurd (omega arith)
 
 abbrev pub KeyWanted : List Level → Type 0
 KeyWanted [] = ⊥

@@ -6,12 +6,13 @@ use Rattle.source.specs.Feed.{fronted}
 use Rattle.source.specs.Sound.{octets_take}
 use Rattle.read.specs.declared.Taken.{Taken}
 use Rattle.read.specs.Reader.{View, past, lies}
-use Rattle.format.specs.Numbers.{latching, read_latching}
+use Rattle.format.specs.Numbers.{read_latching}
 use Rattle.format.specs.declared.refusal.ReadError.{ReadError}
 use Rattle.format.specs.declared.refusal.ReadError.TheVariants as error
 use Rattle.format.specs.declared.refusal.Cause.TheVariants as cause
 use Rattle.bunser.specs.declared.text.TextKind.{TextKind}
 use Rattle.bunser.specs.declared.text.TextKind.TheVariants as text
+use Rattle.bunser.specs.declared.text.Span.{Span}
 use Rattle.bunser.specs.declared.text.Unread.{Unread}
 use Rattle.bunser.specs.Outcome.{Outcome, got, bad, at, placed, asked}
 use Rattle.bunser.specs.Reads.{fronts}
@@ -22,10 +23,10 @@ use Rattle.values.specs.Values as value
 use Rattle.values.specs.Limits.{Limits, RoomForKeyBytes}
 use Rattle.de.specs.Shown.{shown, taken_bytes}
 use Rattle.de.specs.Steps.{Body, Out, gives, stops, moved, behind, counted, text_space, text_outcome, text_puts, text_front, text_event, behind_text, text_by, text_step}
-use Rattle.runs.specs.Law.{limits}
+use Rattle.runs.specs.Law.{PartOf, HandedOut, limits}
 use Rattle.runs.proofs.Taking.{Level, levels, Fit, names_long, Wants, Plain, bytes_are, text_is, Takes, plain_comes, Tagged, Front, head_taken, KeyWanted, TextWanted, Waits}
 use Rattle.runs.proofs.Taking as taking
-use Rattle.runs.proofs.Stepped.{Solid, Ready, Stepped, Waiting, Stopped}
+use Rattle.runs.proofs.Stepped.{ForGoodOrWaits, Solid, Ready, Stepped, Waiting, Stopped}
 use Rattle.runs.proofs.Digits.{octets_are_bytes}
 use Rattle.runs.proofs.Keys.{lent_bytes}
 use Rattle.runs.proofs.Levels.{filled_holds, keyed_holds, levels_filled, levels_keyed, wanted_open, key_wanted_open, fit_filled, fit_keyed}
@@ -87,6 +88,15 @@ module _ (input : List ℕ) (v : View) (n : ℕ) (long : length (take n v.coming
   text_lies true solid = lent_bytes input v n solid
   text_lies false solid = take_at x (drop (length x) buf) n (ap length puts ∙ long) ∙ puts
 
+part_lies : (lends : Bool) (v : View) → PartOf lends (lies lends v)
+part_lies true v = tt
+part_lies false v = tt
+
+text_handed_out : (k : TextKind) (lends : Bool) (s : Span) → PartOf lends s.taken → HandedOut lends (text_event k s)
+text_handed_out text.Bytes lends s part = part
+text_handed_out text.Text lends s part = part
+text_handed_out text.Key lends s part = part
+
 text_shows : (k : TextKind) (input buf : List ℕ) (t : Taken) (n : ℕ) → shown input buf (text_event k (record { taken = t; len = n })) ≡ text_says k (taken_bytes input buf t n)
 text_shows text.Bytes input buf t n = refl
 text_shows text.Text input buf t n = refl
@@ -139,6 +149,7 @@ module _ (lends : Bool) (input : List ℕ) (b : Body) (ready : Ready lends input
         waits = tt;
         held = subst (RoomForKeyBytes (limits lends)) (sym (behind_text_holds u.kind input b.opens)) ready.held;
       };
+      origin = text_handed_out u.kind lends (record { taken = t; len = u.len }) (subst (PartOf lends) (sym r.lie) (part_lies lends b.reader));
       shows = λ buf.
           let x = text_puts u.kind b.end (text_space lends space) u.len b.reader in
           text_shows u.kind input (fronted (text_front lends x) buf) t u.len
@@ -146,7 +157,7 @@ module _ (lends : Bool) (input : List ℕ) (b : Body) (ready : Ready lends input
           ∙ ap (text_says u.kind) (text_lies input b.reader u.len r.long x (text_put u.kind b.end (text_space lends space) u.len b.reader r.granted r.textual) buf lends ready.solid);
     }
 
-    text_stopped : (e : ReadError) (w : View) → TextRefused u.kind lends b.end (text_space lends space) u.len b.reader e w → Stopped lends input b (at e b.reader.count) (moved b w)
+    text_stopped : (e : ReadError) (w : View) → TextRefused u.kind lends b.end (text_space lends space) u.len b.reader e w → Stopped lends input space b (at e b.reader.count) (moved b w)
     text_stopped e w r = record {
       after = omega arith;
       end = refl;
@@ -157,16 +168,16 @@ module _ (lends : Bool) (input : List ℕ) (b : Body) (ready : Ready lends input
       kind = by_cause (latching_or_room e);
     }
       where
-        by_cause : (read_latching e ≡ true) ⊎ (e ≡ error.Room) → (read_latching e ≡ true) ⊎ ((cause.Read e ≡ cause.Read error.Room) × Waiting lends input b (moved b w))
+        by_cause : (read_latching e ≡ true) ⊎ (e ≡ error.Room) → ForGoodOrWaits lends input space (at e b.reader.count) b (moved b w)
         by_cause (inl l) = inl l
-        by_cause (inr is) = inr (ap cause.Read is, subst (λ v. Waiting lends input b (moved b v)) (sym (r.roomless is)) waits_still)
+        by_cause (inr is) = inr (ap cause.Read is, r.limited is, subst (λ v. Waiting lends input b (moved b v)) (sym (r.roomless is)) waits_still)
 
-    pub text_made : Made lends input b (text_step lends space u b)
+    pub text_made : Made lends input space b (text_step lends space u b)
     unfolding text_step
     text_made = by_read (text_outcome u.kind lends b.end (text_space lends space) u.len b.reader) (text_reads lends b.end (text_space lends space) u.len b.reader u.kind)
       where
         by_read : (m : Outcome ReadError Taken) → Comes (TextRead u.kind lends b.end (text_space lends space) u.len b.reader) (TextRefused u.kind lends b.end (text_space lends space) u.len b.reader) m →
-            Made lends input b (text_by (placed b.reader.count m) u b (text_front lends (text_puts u.kind b.end (text_space lends space) u.len b.reader)))
+            Made lends input space b (text_by (placed b.reader.count m) u b (text_front lends (text_puts u.kind b.end (text_space lends space) u.len b.reader)))
         by_read (got t w) r = text_given t w r
         by_read (bad e w) r = text_stopped e w r
 
@@ -191,9 +202,9 @@ module _ (lends : Bool) (input : List ℕ) (b c : Body) (a : Awaited lends input
     ready = w.ready;
   }
 
-  pub made_behind : (m : Out) → Made lends input c m → Made lends input b m
-  made_behind (gives None d x) s = tt
-  made_behind (gives (Some e) d x) s = record {
+  pub made_behind : (space : Option ℕ) (m : Out) → Made lends input space c m → Made lends input space b m
+  made_behind space (gives None d x) s = tt
+  made_behind space (gives (Some e) d x) s = record {
     bytes = a.waiting.bytes ++ s.bytes;
     says = s.says;
     took = took_more a.waiting.took s.took;
@@ -205,9 +216,10 @@ module _ (lends : Bool) (input : List ℕ) (b c : Body) (a : Awaited lends input
         subst (λ o. Takes (limits lends) (levels input o) (front ++ (a.waiting.bytes ++ s.bytes)) s.says (levels input d.opens)) a.opens
         (subst (λ l. Takes (limits lends) (levels input c.opens) l s.says (levels input d.opens)) (append_assoc front a.waiting.bytes s.bytes) (s.takes (front ++ a.waiting.bytes) (a.waiting.front front h)));
     ready = s.ready;
+    origin = s.origin;
     shows = s.shows;
   }
-  made_behind (stops f d x) s = record {
+  made_behind space (stops f d x) s = record {
     after = let h = s.after in let k = a.waiting.took.count in omega arith;
     end = s.end ∙ a.end;
     opens = s.opens ∙ a.opens;
@@ -217,6 +229,6 @@ module _ (lends : Bool) (input : List ℕ) (b c : Body) (a : Awaited lends input
     kind = by_kind s.kind;
   }
     where
-      by_kind : (latching f.cause ≡ true) ⊎ ((f.cause ≡ cause.Read error.Room) × Waiting lends input c d) → (latching f.cause ≡ true) ⊎ ((f.cause ≡ cause.Read error.Room) × Waiting lends input b d)
+      by_kind : ForGoodOrWaits lends input space f c d → ForGoodOrWaits lends input space f b d
       by_kind (inl l) = inl l
-      by_kind (inr (r, w)) = inr (r, waiting_behind w)
+      by_kind (inr (full, limited, w)) = inr (full, limited, waiting_behind w)

@@ -5,9 +5,8 @@ ghost use Rattle.format.specs.declared.refusal.Cause.TheVariants.{Read};
 ghost use Rattle.tablecheck.specs.Reports.{IsGood};
 
 use super::content::{Content, Survey};
-use super::header::{Headers, copying, header_at};
+use super::header::{Headers, copying};
 use super::report::{FileReport, PduReport};
-use super::span::part;
 use de::decoder::Decoder;
 use de::event::Event;
 use de::pdu::PduInfo;
@@ -21,14 +20,6 @@ fn is_room(refusal: &Refusal) -> bool
     ensures { IsTrue result ↔ (refusal.now.cause ≡ Read Room) }
 {
     refusal.cause == Cause::Read(ReadError::Room)
-}
-
-// The bytes of a key, and none of another event.
-fn key_of<'r>(event: Event, file: &'r [u8], text: &'r [u8]) -> &'r [u8] {
-    match event {
-        Event::Key(span) => part(span, file, text).unwrap_or(&[]),
-        _ => &[],
-    }
 }
 
 /// A file that is read by a decoder, with room for its texts.
@@ -50,13 +41,24 @@ impl<'a, R: DeRead + Drop> Reading<'a, R> {
             && self.decoder.skip().is_ok()
     }
 
+    // The bytes of a key, and none of another event.
+    fn key_of(&self, event: Event) -> Result<&[u8], Refusal> {
+        match event {
+            Event::Key(span) => self.decoder.part(span, self.file, &self.text),
+            _ => Ok(&[]),
+        }
+    }
+
     // Reads the open PDU to its last event or to a refusal.
     fn survey(&mut self) -> Result<Content, AllocError> {
         let mut survey = Survey::new(self.alloc);
         for _ in 0..u64::MAX {
             match self.decoder.next(&mut self.text) {
                 Ok(Some(event)) => {
-                    survey.note(event, key_of(event, self.file, &self.text))?;
+                    let Ok(key) = self.key_of(event) else {
+                        break;
+                    };
+                    survey.note(event, key)?;
                 }
                 Err(_) if self.passes_long_text() => {}
                 Ok(None) | Err(_) => break,
@@ -65,10 +67,11 @@ impl<'a, R: DeRead + Drop> Reading<'a, R> {
         Ok(survey.into_content())
     }
 
-    // The PDU of this token, which begins at this place.
-    fn read_pdu(&mut self, info: PduInfo, place: usize) -> Result<PduReport, AllocError>
+    // The PDU of this token.
+    fn read_pdu(&mut self, info: PduInfo) -> Result<PduReport, AllocError>
         ensures { IfOk result (λ r. IfOk r.outcome (λ closed. closed.events ≡ r.events)) }
     {
+        let header = info.header();
         let content = self.survey();
         let outcome = match self.decoder.close(info) {
             Ok(closed) => Ok(closed),
@@ -76,7 +79,7 @@ impl<'a, R: DeRead + Drop> Reading<'a, R> {
         };
         let (events, _) = self.decoder.tally();
         Ok(PduReport {
-            header: header_at(self.file, place),
+            header,
             content: content?,
             events,
             outcome,
@@ -95,7 +98,7 @@ impl<'a, R: DeRead + Drop> Reading<'a, R> {
             }
             match self.decoder.open() {
                 Ok(info) => {
-                    let pdu = self.read_pdu(info, place)?;
+                    let pdu = self.read_pdu(info)?;
                     place = pdu.header.start.saturating_add(pdu.header.length);
                     let accepted = pdu.is_accepted();
                     pdus.push(pdu)?;

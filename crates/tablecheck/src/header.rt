@@ -55,17 +55,3 @@ impl Headers {
         self.lent == self.copied
     }
 }
-
-/// The header that begins at this place of a file.
-pub fn header_at(file: &[u8], place: usize) -> Header {
-    let behind = file.get(place..).unwrap_or(&[]);
-    let header = header_of(SliceRead::new(behind)).unwrap_or(Header {
-        capabilities: 0,
-        start: 0,
-        length: 0,
-    });
-    Header {
-        start: place.saturating_add(header.start),
-        ..header
-    }
-}

@@ -5,7 +5,6 @@ mod content;
 mod findings;
 mod header;
 mod report;
-mod span;
 mod table;
 mod words;
 

@@ -13,12 +13,15 @@ impl fmt::Display for Count {
     }
 }
 
-/// Names in quotes, one behind the other.
+/// Names in quotes, one behind the other, or none.
 #[derive(Clone, Copy)]
 pub struct Names<'a>(pub &'a [String]);
 
 impl fmt::Display for Names<'_> {
     fn fmt<W: fmt::Write>(&self, f: &mut fmt::Formatter<W>) -> fmt::Result {
+        if self.0.is_empty() {
+            return f.write_str("none");
+        }
         let mut mark = "";
         for name in self.0 {
             write!(f, "{mark}{name:?}")?;

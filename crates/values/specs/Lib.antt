@@ -2,3 +2,4 @@ pub mod Values
 pub mod Limits
 pub mod Examples
 pub mod Watchman
+pub mod Columns

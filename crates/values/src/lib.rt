@@ -1,6 +1,7 @@
 //! What a value is: the definitions stand in specs/, and this crate shows worked examples of them.
 #![tactic(auto)]
 
+ghost use Rattle.values.specs.Columns.{EachUnderItsKey};
 ghost use Rattle.values.specs.Examples.{Examples};
 ghost use Rattle.values.specs.Watchman.{Watchman};
 
@@ -14,4 +15,9 @@ pub fn examples_hold()
 #[tactic(auto, unfolding(crate::specs::Values::count_encoding, utf8::specs::Utf8::utf8))]
 pub fn watchman_agrees()
     ensures { Watchman }
+{}
+
+/// Each cell of a row gives its events behind the key of its own column, a gap too.
+pub fn columns_keep_their_keys()
+    ensures { EachUnderItsKey }
 {}

@@ -5,7 +5,7 @@ use Rattle.room.specs.Open.{rows}
 use Rattle.room.specs.declared.frame.Frame.TheVariants.{Rows}
 use Rattle.room.specs.Opens.{opens_in, count_of}
 use Rattle.room.proofs.Innermost.{free_left, pushed_kept, pushed_opens}
-use Rattle.room.proofs.opens.Opens.rows.Goals as goal
+use Rattle.room.proofs.opens.Opens.push_rows.Goals as goal
 
 pub push-requires-clause-free : goal.push-requires-clause-free
 push-requires-clause-free c = free_left c.self.inside c.self.invariant c.args.self.now (c.self.view_is ∙ c.fill.ensures) c.requires
