@@ -22,19 +22,3 @@ depth_behind event.True n = n
 depth_behind event.False n = n
 depth_behind event.Null n = n
 depth_behind event.Absent n = n
-
--- how many gaps a row has behind an event of it
-abbrev pub gaps_behind : Event → ℕ → ℕ
-gaps_behind event.Absent n = more n
-gaps_behind event.ArrayBegin n = n
-gaps_behind event.MapBegin n = n
-gaps_behind event.ArrayEnd n = n
-gaps_behind event.MapEnd n = n
-gaps_behind (event.Key s) n = n
-gaps_behind (event.Int w x) n = n
-gaps_behind (event.Real x) n = n
-gaps_behind (event.Bytes s) n = n
-gaps_behind (event.Text s) n = n
-gaps_behind event.True n = n
-gaps_behind event.False n = n
-gaps_behind event.Null n = n

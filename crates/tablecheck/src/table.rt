@@ -1,7 +1,7 @@
 //! A table, and how it is found in the events of a list.
 ghost use Rattle.std.specs.Prelude.{◌≡◌, ◌≢◌, ◌==◌, [], Ok, vec_len, IfOk, true, IsTrue, ◌↔◌, Some, slice_get, option_map, string_bytes};
-ghost use Rattle.de.specs.declared.event.Event.TheVariants.{MapEnd};
-ghost use Rattle.tablecheck.specs.Surveys.{more, gaps_behind};
+ghost use Rattle.de.specs.declared.event.Event.TheVariants.{MapEnd, Absent};
+ghost use Rattle.tablecheck.specs.Surveys.{more};
 
 use super::words::{Count, Names};
 use de::event::Event;
@@ -48,7 +48,8 @@ impl Table {
 
     /// An event of a row, with the bytes of a key. Tells whether the row still has the table's columns.
     pub fn note(&mut self, event: Event, key: &[u8]) -> Result<bool, AllocError>
-        ensures gaps { self.new.gaps ≡ gaps_behind event self.old.gaps }
+        ensures gap { event ≡ Absent → self.new.gaps ≡ more self.old.gaps }
+        ensures value { event ≢ Absent → self.new.gaps ≡ self.old.gaps }
         ensures rows { self.new.rows ≡ self.old.rows }
         ensures columns { self.old.rows ≢ 1 → self.new.columns.items ≡ self.old.columns.items }
         ensures whole { event ≡ MapEnd → result ≡ Ok (self.old.cells == vec_len self.old.columns) }
