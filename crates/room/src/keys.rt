@@ -115,7 +115,11 @@ impl KeyRoom {
     }
 
     /// Reads n keys, for which there is room by number.
-    pub(crate) fn read_keys<R: DeRead>(&mut self, bunser: &mut Bunser<R>, n: usize) -> Result<(), Refusal>
+    pub(crate) fn read_keys<R: DeRead>(
+        &mut self,
+        bunser: &mut Bunser<R>,
+        n: usize,
+    ) -> Result<(), Refusal>
         requires { length self.old + n ≤ KEYS }
         ensures few { length self.new ≤ KEYS }
         ensures reads { BodyRead R.DeRead.view bunser.old bunser.new (λ end v. KeysTold (keys_read R.DeRead.lends end (column_bytes self.old) n v) self.old result self.new) }

@@ -20,7 +20,7 @@ use Rattle.bunser.specs.Outcome.{ReadLeaves, CauseLeaves}
 use Rattle.room.specs.Open.{Column, Open}
 use Rattle.de.specs.declared.event.Event.{Event}
 use Rattle.de.specs.Steps.{Body, stops, counted, step, Apart}
-use Rattle.runs.specs.Law.{lent_bytes, Begins, from, limits, Declared, Whole, Ended}
+use Rattle.runs.specs.Law.{all_bytes, Begins, from, limits, Declared, Whole, Ended}
 use Rattle.runs.proofs.Taking.{Level, levels, Takes, Front, none_taken, TextWanted, Waits}
 use Rattle.runs.proofs.Coming.{Completes, at_end, goes, all_come}
 use Rattle.runs.proofs.Reached.{Reached, reached_more, whole_body}
@@ -59,17 +59,17 @@ not_past {n} {end} h = ltb-false end n h
 
 -- these events have passed, and these bytes were taken up to the last of them
 pub record Passing (lends : Bool) (v : View) (start size : ℕ) (taken : List ℕ) (es : List value.Event) (b : Body) : Type 0 where
-  pub reached : Reached lends taken es (levels (lent_bytes lends v) b.opens)
+  pub reached : Reached lends taken es (levels (all_bytes v) b.opens)
   pub counts : b.events ≡ length es
   pub begins : Begins taken (from v start)
   pub fits : length taken ≤ size
 
 -- nothing was refused for good: then bytes of an awaited text were taken, and the others come
 pub record Live (lends : Bool) (v : View) (start size : ℕ) (taken : List ℕ) (es : List value.Event) (b : Body) : Type 0 where
-  pub reached : Reached lends taken es (levels (lent_bytes lends v) b.opens)
+  pub reached : Reached lends taken es (levels (all_bytes v) b.opens)
   pub counts : b.events ≡ length es
   pub drawn : Drawn lends v b.reader
-  pub ready : Ready lends (lent_bytes lends v) b
+  pub ready : Ready lends (all_bytes v) b
   pub end : b.end ≡ Some (start + size)
   pub front : List ℕ
   pub fronts : Front b.unread front
@@ -154,18 +154,18 @@ none_more es (t ∷ x) e = absurd (omega (arith, simp length-append at (ap lengt
 pub has_ended : {lends : Bool} {v : View} {start size : ℕ} {taken : List ℕ} {es : List value.Event} {b : Body} → Passing lends v start size taken es b → b.opens ≡ [] →
     (w : Value) × Ended v start es (start + length taken) w
 has_ended {lends} {v} {taken = taken} {es = es} p closed =
-    let (w, formed, body, told) = whole_body (subst (λ o. Reached lends taken es (levels (lent_bytes lends v) o)) closed p.reached) in
+    let (w, formed, body, told) = whole_body (subst (λ o. Reached lends taken es (levels (all_bytes v) o)) closed p.reached) in
     (w, record { formed = formed; bytes = body ∙ sym (bytes_taken p); told = told })
 
 pub nothing_open : {lends : Bool} {v : View} {start size : ℕ} {taken : List ℕ} {es : List value.Event} {b : Body} → Passing lends v start size taken es b → (w : Value) →
     Ended v start es (start + length taken) w → b.opens ≡ []
 nothing_open {lends} {v} {taken = taken} {es = es} {b = b} p w ended =
     let (x, told, completes) = p.reached.every w ended.formed [] (ended.bytes ∙ bytes_taken p ∙ sym (append-nil taken)) in
-    no_levels (lent_bytes lends v) b.opens (all_come completes (none_more es x (sym ended.told ∙ told))).0
+    no_levels (all_bytes v) b.opens (all_come completes (none_more es x (sym ended.told ∙ told))).0
 
 -- what is still to come of a whole body
 pub still_to_come : {lends : Bool} {v : View} {start size : ℕ} {taken : List ℕ} {es : List value.Event} {b : Body} → Passing lends v start size taken es b → (w : Value) → Declared v start size w →
-    (r : List ℕ) × (x : List value.Event) × (encoding w ≡ taken ++ r) × (events w ≡ es ++ x) × Completes none (levels (lent_bytes lends v) b.opens) r x
+    (r : List ℕ) × (x : List value.Event) × (encoding w ≡ taken ++ r) × (events w ≡ es ++ x) × Completes none (levels (all_bytes v) b.opens) r x
 still_to_come {size = size} {taken = taken} p w declared =
     let (l, begins) = p.begins in
     let (r, q, cut, rest) = cut_behind taken l size p.fits in
@@ -195,7 +195,7 @@ module _ {lends : Bool} {v : View} {start size : ℕ} where
       omega arith
 
   pub advance : {taken : List ℕ} {es : List value.Event} {b c : Body} {e : Event} {x : List ℕ} → start + size ≤ 1152921504606846976 → (l : Live lends v start size taken es b) →
-      (s : Stepped lends (lent_bytes lends v) b e c x) → Advanced lends v start size taken (es ++ (s.says ∷ [])) c
+      (s : Stepped lends (all_bytes v) b e c x) → Advanced lends v start size taken (es ++ (s.says ∷ [])) c
   advance {taken} {es} {b} {c} small l s =
       let now : List ℕ = taken ++ (l.front ++ s.bytes) in
       let long : length now ≡ length taken + (length l.front + length s.bytes) = simp length-append in
@@ -221,12 +221,12 @@ module _ {lends : Bool} {v : View} {start size : ℕ} where
       }
 
   pub stopped_inside : {space : Option ℕ} {taken : List ℕ} {es : List value.Event} {b c : Body} {f : Refusal} → Live lends v start size taken es b →
-      Stopped lends (lent_bytes lends v) space b f c → c.reader.count ≤ start + size
+      Stopped lends (all_bytes v) space b f c → c.reader.count ≤ start + size
   stopped_inside {c = c} l s = after_end c.reader.count l (s.inside (before_end l))
 
   -- a text is awaited
   pub wait : {space : Option ℕ} {taken : List ℕ} {es : List value.Event} {b c : Body} {f : Refusal} → Live lends v start size taken es b →
-      Stopped lends (lent_bytes lends v) space b f c → Waiting lends (lent_bytes lends v) b c →
+      Stopped lends (all_bytes v) space b f c → Waiting lends (all_bytes v) b c →
       Live lends v start size taken es c
   wait {taken} {es} {b} {c} l s t =
       let there = l.count in
@@ -253,12 +253,12 @@ module _ {lends : Bool} {v : View} {start size : ℕ} where
       let (r, q, cut, rest) = cut_behind taken (l.front ++ b.reader.coming) size (omega arith) in
       let body : encoding w ≡ taken ++ r = sym whole.declared.there ∙ ap (take size) l.split ∙ cut in
       let (x, told, completes) = l.reached.whole w whole.declared.formed whole.within r body in
-      go (levels (lent_bytes lends v) b.opens) refl completes q rest told (sym whole.declared.long ∙ ap length body ∙ length-append taken r)
+      go (levels (all_bytes v) b.opens) refl completes q rest told (sym whole.declared.long ∙ ap length body ∙ length-append taken r)
     where
-      go : (s : List Level) → levels (lent_bytes lends v) b.opens ≡ s → {r : List ℕ} {x : List value.Event} → Completes (limits lends) s r x → (q : List ℕ) → l.front ++ b.reader.coming ≡ r ++ q →
+      go : (s : List Level) → levels (all_bytes v) b.opens ≡ s → {r : List ℕ} {x : List value.Event} → Completes (limits lends) s r x → (q : List ℕ) → l.front ++ b.reader.coming ≡ r ++ q →
           events w ≡ es ++ x → size ≡ length taken + length r →
           Outlook lends space b es w
-      go s here at_end q rest told long = at_the_end (no_levels (lent_bytes lends v) b.opens here) (sym (told ∙ append-nil es))
+      go s here at_end q rest told long = at_the_end (no_levels (all_bytes v) b.opens here) (sym (told ∙ append-nil es))
       go s here (goes {t = after} {c = c} {b = r} {e = t} {x = x} k more) q rest told long =
           let count = l.count in
           let inside = l.inside in
@@ -285,7 +285,7 @@ module _ {lends : Bool} {v : View} {start size : ℕ} where
 
   -- a step was refused for good
   pub stuck : {taken : List ℕ} {es : List value.Event} {b c : Body} {f : Refusal} {x : List ℕ} (space : Option ℕ) → Live lends v start size taken es b →
-      Stopped lends (lent_bytes lends v) space b f c →
+      Stopped lends (all_bytes v) space b f c →
       step lends space b ≡ stops f c x → latching f.cause ≡ true →
       (d : Body) → d.opens ≡ c.opens → d.events ≡ c.events → d.reader.count ≤ start + size → Stuck lends v start size taken es f d
   stuck space l s stop latches d opens events inside =

@@ -19,7 +19,7 @@ use Rattle.de.specs.declared.entry.Answer.TheVariants as answer
 use Rattle.de.specs.Steps.{Body}
 use Rattle.de.specs.Calls.{State, Meets, gave, telling, latch, here, shut, refusing, finished, finished_by, close_by, close_own, close_call, owns, up_to}
 use Rattle.de.specs.Made.{Moment, Made, CloseAnswer, token}
-use Rattle.runs.specs.Law.{lent_bytes, running, over, phase, phase_after, close_phase, first_for_good, RefusedAgrees, Agrees, Declared, Closes, Unclosed, ForGood, Again, CloseAsked}
+use Rattle.runs.specs.Law.{all_bytes, running, over, phase, phase_after, close_phase, first_for_good, RefusedAgrees, Agrees, Declared, Closes, Unclosed, ForGood, Again, CloseAsked}
 use Rattle.runs.proofs.Taking.{none_ahead, levels}
 use Rattle.runs.proofs.Coming.{all_come}
 use Rattle.runs.proofs.Reached.{Reached, whole_body}
@@ -184,7 +184,7 @@ whole_passed : {lends : Bool} {v : View} {start size : ℕ} {taken : List ℕ} {
 whole_passed {lends} {v} {start} {size} {taken} {es} {b} p w declared all =
     let (r, x, body, told, completes) = still_to_come p w declared in
     let (ended, none) = all_come completes (none_more es x (all ∙ told)) in
-    (no_levels (lent_bytes lends v) b.opens ended, sym (ap length (body ∙ ap (λ r. taken ++ r) none ∙ append-nil taken)) ∙ declared.long)
+    (no_levels (all_bytes v) b.opens ended, sym (ap length (body ∙ ap (λ r. taken ++ r) none ∙ append-nil taken)) ∙ declared.long)
 
 all_passed : (b : Body) → finished b ≡ true → (b.unread ≡ None) × (b.opens ≡ [])
 all_passed b h = by b.unread b.opens refl refl h
@@ -225,7 +225,7 @@ closes_right {lends} {v} {h} {s} {t} {a} y on latched made =
             let short = ap length none in
             let count = live.count in
             let full : length y.taken ≡ y.size = omega arith in
-            let (w, formed, body, told) = whole_body (subst (λ o. Reached lends y.taken y.es (levels (lent_bytes lends v) o)) closed live.reached) in
+            let (w, formed, body, told) = whole_body (subst (λ o. Reached lends y.taken y.es (levels (all_bytes v) o)) closed live.reached) in
             let (number, long) = same_closed (sym is ∙ b) in (
               number ∙ live.counts,
               long,
@@ -247,7 +247,7 @@ closes_right {lends} {v} {h} {s} {t} {a} y on latched made =
     accepts caught own (stands_still st) came w declared all = absurd (st.more (whole_passed st.passing w declared all).0)
     accepts loose own (goes_on live) came w declared all =
         let (closed, long) = whole_passed y.passing w declared all in
-        let calm = none_awaited (lent_bytes lends v) s.body.unread s.body.opens live.ready.waits closed in
+        let calm = none_awaited (all_bytes v) s.body.unread s.body.opens live.ready.waits closed in
         let short = ap length (none_ahead live.fronts calm) in
         let count = live.count in
         let there : s.body.reader.count ≡ y.start + y.size = omega arith in
@@ -270,7 +270,7 @@ closes_right {lends} {v} {h} {s} {t} {a} y on latched made =
           where
             still_going : s.body.opens ≡ [] → ⊥
             still_going closed =
-                let calm = none_awaited (lent_bytes lends v) s.body.unread s.body.opens live.ready.waits closed in
+                let calm = none_awaited (all_bytes v) s.body.unread s.body.opens live.ready.waits closed in
                 let done : finished s.body ≡ true = rw (calm, closed) refl in
                 let z : false ≡ true = sym going ∙ done in
                 absurd (cc)

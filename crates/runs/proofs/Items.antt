@@ -27,7 +27,7 @@ use Rattle.de.specs.declared.event.Event.TheVariants as event
 use Rattle.de.specs.declared.event.Ahead.TheVariants as ahead
 use Rattle.de.specs.Shown.{shown}
 use Rattle.de.specs.Steps.{Body, Coming, comes, halts, passes, moved, awaiting, behind, reading, int_comes, real_comes, text_comes, key_comes, tag_comes, levelled, array_comes, object_comes, keyless, rows_by, rows_come, template_comes, gap_comes, tagged, item_comes, text_step}
-use Rattle.runs.specs.Law.{limits}
+use Rattle.runs.specs.Law.{HandedOut, limits}
 use Rattle.runs.proofs.Taking.{none_ahead, level, levels, all_named, Fit, Wants, Plain, null_is, true_is, false_is, integer_is, real_is, template_front, TemplateWithin, Takes, plain_comes, Tagged, Front, head_taken, KeyWanted, TextWanted}
 use Rattle.runs.proofs.Taking as taking
 use Rattle.runs.proofs.Stepped.{Ready, Stepped, Stopped}
@@ -94,10 +94,10 @@ module _ (lends : Bool) (input : List ℕ) (space : Option ℕ) (b : Body) (read
 
     -- a value has begun, which may lead deeper
     begun : (e : Event) (t : value.Event) (w : View) (bs : List ℕ) → Gotten lends b.end b.reader w bs → Takes (limits lends) (levels input b.opens) bs t (filled (levels input b.opens)) →
-        ((buf : List ℕ) → shown input buf e ≡ t) →
+        HandedOut lends e → ((buf : List ℕ) → shown input buf e ≡ t) →
         Stepped lends input b e (behind b w (filled b.opens)) []
-    begun e t w bs g takes shows =
-        passed lends input b ready calm e [] t w bs (filled b.opens) g (subst (Takes (limits lends) (levels input b.opens) bs t) (sym (levels_filled input b.opens)) takes) (fit_filled lends b.opens ready.fit) shows
+    begun e t w bs g takes origin shows =
+        passed lends input b ready calm e [] t w bs (filled b.opens) g (subst (Takes (limits lends) (levels input b.opens) bs t) (sym (levels_filled input b.opens)) takes) (fit_filled lends b.opens ready.fit) origin shows
 
     module _ (w : View) where
       -- what is refused behind a tag
@@ -109,10 +109,10 @@ module _ (lends : Bool) (input : List ℕ) (space : Option ℕ) (b : Body) (read
       stopped_before s c h = halted lends input b ready more (record { place = w.count; cause = c }) w (halted_before s c h)
 
       tag_made : (e : Event) (t : value.Event) (n : ℕ) → Peeked lends b.end b.reader n w → Takes (limits lends) (levels input b.opens) (n ∷ []) t (filled (levels input b.opens)) →
-          ((buf : List ℕ) → shown input buf e ≡ t) →
+          HandedOut lends e → ((buf : List ℕ) → shown input buf e ≡ t) →
           Goes lends input space b (tag_comes lends e (moved b w))
       unfolding tag_comes
-      tag_made e t n s takes shows = begun e t (discarded lends w) (n ∷ []) s.gotten takes shows
+      tag_made e t n s takes origin shows = begun e t (discarded lends w) (n ∷ []) s.gotten takes origin shows
 
       -- the place of a number is its tag's
       number_reads : {A : Type 0} {t : ℕ} (gave : A → View → Type 0) → Peeked lends b.end b.reader t w → (m : Outcome ReadError A) → Comes gave (Failed b.end (discarded lends w)) m →
@@ -126,7 +126,7 @@ module _ (lends : Bool) (input : List ℕ) (space : Option ℕ) (b : Body) (read
           (λ z v. passes (event.Int k z) (moved b w) v (filled b.opens))
           (number_reads (NumberRead lends b.end (discarded lends w) k) s (int_read lends b.end k (discarded lends w)) (int_reads lends b.end (discarded lends w) (gotten_on s.gotten ready.solid).octets k))
           (halted lends input b ready more)
-          (λ z v r. begun (event.Int k z) (value.an_integer k z) v (value.int_encoding k z) (gotten_more s.gotten r.gotten) (plain_comes wants (integer_is k z) r.fits) (λ buf. refl))
+          (λ z v r. begun (event.Int k z) (value.an_integer k z) v (value.int_encoding k z) (gotten_more s.gotten r.gotten) (plain_comes wants (integer_is k z) r.fits) tt (λ buf. refl))
 
       real_made : Peeked lends b.end b.reader 0x07 w → Goes lends input space b (real_comes lends (moved b w))
       unfolding real_comes
@@ -135,7 +135,7 @@ module _ (lends : Bool) (input : List ℕ) (space : Option ℕ) (b : Body) (read
           (λ n v. passes (event.Real n) (moved b w) v (filled b.opens))
           (number_reads (RealRead lends b.end (discarded lends w)) s (real_read lends b.end (discarded lends w)) (real_reads lends b.end (discarded lends w) (gotten_on s.gotten ready.solid).octets))
           (halted lends input b ready more)
-          (λ n v r. begun (event.Real n) (value.a_real n) v (0x07 ∷ value.digits 8 n) (gotten_more s.gotten r.gotten) (plain_comes wants (real_is n) r.small) (λ buf. refl))
+          (λ n v r. begun (event.Real n) (value.a_real n) v (0x07 ∷ value.digits 8 n) (gotten_more s.gotten r.gotten) (plain_comes wants (real_is n) r.small) tt (λ buf. refl))
 
       levelled_made : {t : ℕ} (m : Coming) → Peeked lends b.end b.reader t w → (depth b.opens < 128 → Goes lends input space b m) → Goes lends input space b (levelled (moved b w) m)
       levelled_made m s h =
@@ -146,27 +146,27 @@ module _ (lends : Bool) (input : List ℕ) (space : Option ℕ) (b : Body) (read
       free h = subst (LevelFree (limits lends)) (sym (levels_depth input b.opens)) (level_free lends (depth b.opens) h)
 
       -- a count behind a tag, and then so many parts
-      counted_made : {t : ℕ} (e : Event) (begins : value.Event) (o : ℕ → Open Column) → Peeked lends b.end b.reader t w → ((buf : List ℕ) → shown input buf e ≡ begins) →
+      counted_made : {t : ℕ} (e : Event) (begins : value.Event) (o : ℕ → Open Column) → Peeked lends b.end b.reader t w → HandedOut lends e → ((buf : List ℕ) → shown input buf e ≡ begins) →
           ((k : Width) (n : ℕ) → Fits k (pos n) → Takes (limits lends) (levels input b.opens) (t ∷ count_encoding k n) begins (level input (o n) ∷ filled (levels input b.opens))) →
           ((n : ℕ) → Fit lends (o n ∷ filled b.opens)) →
           Goes lends input space b (reading (placed_count lends b.end (discarded lends w)) (moved b w) (λ n v. passes e (moved b w) v (o n ∷ filled b.opens)))
-      counted_made {t} e begins o s shows takes fit =
+      counted_made {t} e begins o s origin shows takes fit =
           reading_made (CountRead lends b.end (discarded lends w)) (Halted b.end (discarded lends w)) lends input space b (moved b w) (placed_count lends b.end (discarded lends w))
           (λ n v. passes e (moved b w) v (o n ∷ filled b.opens))
           (placed_count_reads lends b.end (discarded lends w) (gotten_on s.gotten ready.solid).octets) (stopped_behind s)
           (λ n v c.
           passed lends input b ready calm e [] begins v (t ∷ count_encoding c.width n) (o n ∷ filled b.opens) (gotten_more s.gotten c.gotten)
-          (subst (λ l. Takes (limits lends) (levels input b.opens) (t ∷ count_encoding c.width n) begins (level input (o n) ∷ l)) (sym (levels_filled input b.opens)) (takes c.width n c.fits)) (fit n) shows)
+          (subst (λ l. Takes (limits lends) (levels input b.opens) (t ∷ count_encoding c.width n) begins (level input (o n) ∷ l)) (sym (levels_filled input b.opens)) (takes c.width n c.fits)) (fit n) origin shows)
 
       array_made : Peeked lends b.end b.reader 0x00 w → Goes lends input space b (array_comes lends (moved b w))
       unfolding array_comes
       array_made s =
-          levelled_made _ s (λ h. counted_made event.ArrayBegin value.array_begin items s (λ buf. refl) (λ k n f. taking.array_comes wants k n f (free h)) (λ n. fit_filled lends b.opens ready.fit))
+          levelled_made _ s (λ h. counted_made event.ArrayBegin value.array_begin items s tt (λ buf. refl) (λ k n f. taking.array_comes wants k n f (free h)) (λ n. fit_filled lends b.opens ready.fit))
 
       object_made : Peeked lends b.end b.reader 0x01 w → Goes lends input space b (object_comes lends (moved b w))
       unfolding object_comes
       object_made s =
-          levelled_made _ s (λ h. counted_made event.MapBegin value.map_begin pairs s (λ buf. refl) (λ k n f. taking.object_comes wants k n f (free h)) (λ n. fit_filled lends b.opens ready.fit))
+          levelled_made _ s (λ h. counted_made event.MapBegin value.map_begin pairs s tt (λ buf. refl) (λ k n f. taking.object_comes wants k n f (free h)) (λ n. fit_filled lends b.opens ready.fit))
 
       text_tag_made : (k : TextKind) (t : ℕ) → Peeked lends b.end b.reader t w → Tagged k t → TextWanted k (levels input b.opens) → Goes lends input space b (text_comes lends k (moved b w))
       unfolding text_comes
@@ -198,7 +198,7 @@ module _ (lends : Bool) (input : List ℕ) (space : Option ℕ) (b : Body) (read
             (subst (λ l. Takes (limits lends) (levels input b.opens) (template_front r.width r.list c.width n) value.array_begin (rows (all_named input cs) n ∷ l)) (sym (levels_filled input b.opens))
             (subst (λ l. Takes (limits lends) (levels input b.opens) (template_front r.width r.list c.width n) value.array_begin (rows l n ∷ filled (levels input b.opens))) (sym r.names)
             (taking.template_comes wants r.width r.list c.width n r.fits r.formed c.fits (within n keyed))))
-            (r.lie, fit_filled lends b.opens ready.fit) (λ buf. refl)
+            (r.lie, fit_filled lends b.opens ready.fit) tt (λ buf. refl)
 
         rows_made : Goes lends input space b (rows_come lends cs (moved b w) v)
         unfolding rows_come
@@ -230,15 +230,15 @@ module _ (lends : Bool) (input : List ℕ) (space : Option ℕ) (b : Body) (read
         tag_is n e = subst (λ t. Peeked lends b.end b.reader t w) (eqb-true t n e) s
 
         gap_made : (c : Bool) → may ≡ c → Peeked lends b.end b.reader 0x0c w → Goes lends input space b (gap_comes lends c t (moved b w))
-        gap_made true e s = tag_made event.Absent value.absent 0x0c s (gap e) (λ buf. refl)
+        gap_made true e s = tag_made event.Absent value.absent 0x0c s (gap e) tt (λ buf. refl)
         gap_made false e s = no_item_made
 
         either : (n : ℕ) (m o : Coming) → (Peeked lends b.end b.reader n w → Goes lends input space b m) → Goes lends input space b o → Goes lends input space b (cond (eqb t n) m o)
         either n m o h k = cond_made lends input space b (eqb t n) m o (λ e. h (tag_is n e)) (λ e. k)
 
-        plain_tag : (n : ℕ) (e : Event) (v : Value) (p : value.Event) → Plain v p → Formed v → encoding v ≡ n ∷ [] → ((buf : List ℕ) → shown input buf e ≡ p) → Peeked lends b.end b.reader n w →
+        plain_tag : (n : ℕ) (e : Event) (v : Value) (p : value.Event) → Plain v p → Formed v → encoding v ≡ n ∷ [] → HandedOut lends e → ((buf : List ℕ) → shown input buf e ≡ p) → Peeked lends b.end b.reader n w →
             Goes lends input space b (tag_comes lends e (moved b w))
-        plain_tag n e v p plain formed is shows s = tag_made e p n s (subst (λ l. Takes (limits lends) (levels input b.opens) l p (filled (levels input b.opens))) is (plain_comes wants plain formed)) shows
+        plain_tag n e v p plain formed is origin shows s = tag_made e p n s (subst (λ l. Takes (limits lends) (levels input b.opens) l p (filled (levels input b.opens))) is (plain_comes wants plain formed)) origin shows
 
         tagged_made : Goes lends input space b (tagged lends may t (moved b w))
         unfolding tagged
@@ -251,9 +251,9 @@ module _ (lends : Bool) (input : List ℕ) (space : Option ℕ) (b : Body) (read
             (either 0x05 _ _ (int_made W32)
             (either 0x06 _ _ (int_made W64)
             (either 0x07 _ _ real_made
-            (either 0x08 _ _ (plain_tag 0x08 event.True yes_value value.is_true true_is tt refl (λ buf. refl))
-            (either 0x09 _ _ (plain_tag 0x09 event.False no_value value.is_false false_is tt refl (λ buf. refl))
-            (either 0x0a _ _ (plain_tag 0x0a event.Null null value.is_null null_is tt refl (λ buf. refl))
+            (either 0x08 _ _ (plain_tag 0x08 event.True yes_value value.is_true true_is tt refl tt (λ buf. refl))
+            (either 0x09 _ _ (plain_tag 0x09 event.False no_value value.is_false false_is tt refl tt (λ buf. refl))
+            (either 0x0a _ _ (plain_tag 0x0a event.Null null value.is_null null_is tt refl tt (λ buf. refl))
             (either 0x0b _ _ template_made
             (either 0x0c _ _ (gap_made may refl)
             (either 0x0d _ _ (λ s. text_tag_made text.Text 0x0d s refl wants)

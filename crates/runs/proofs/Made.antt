@@ -9,7 +9,7 @@ use Rattle.values.specs.Values as value
 use Rattle.de.specs.declared.event.Event.{Event}
 use Rattle.de.specs.Shown.{shown}
 use Rattle.de.specs.Steps.{Body, Coming, Out, gives, stops, moved, behind, reading, finishing}
-use Rattle.runs.specs.Law.{limits}
+use Rattle.runs.specs.Law.{HandedOut, limits}
 use Rattle.runs.proofs.Taking.{none_ahead, levels, Fit, Takes}
 use Rattle.runs.proofs.Stepped.{Ready, Stepped, Stopped}
 use Rattle.runs.proofs.Levels.{takes_within}
@@ -34,9 +34,9 @@ cond_made lends input space b false m n h k = k refl
 module _ (lends : Bool) (input : List ℕ) (b : Body) (ready : Ready lends input b) where
   -- an event has passed, of these bytes
   module _ (calm : b.unread ≡ None) (e : Event) (x : List ℕ) (t : value.Event) (w : View) (bs : List ℕ) (o : List (Open Column)) where
-    pub passed : Gotten lends b.end b.reader w bs → Takes (limits lends) (levels input b.opens) bs t (levels input o) → Fit lends o → ((buf : List ℕ) → shown input (fronted x buf) e ≡ t) →
+    pub passed : Gotten lends b.end b.reader w bs → Takes (limits lends) (levels input b.opens) bs t (levels input o) → Fit lends o → HandedOut lends e → ((buf : List ℕ) → shown input (fronted x buf) e ≡ t) →
         Stepped lends input b e (behind b w o) x
-    passed g takes fit shows = record {
+    passed g takes fit origin shows = record {
       bytes = bs;
       says = t;
       took = g.took;
@@ -46,6 +46,7 @@ module _ (lends : Bool) (input : List ℕ) (b : Body) (ready : Ready lends input
       events = refl;
       takes = λ front h. subst (λ l. Takes (limits lends) (levels input b.opens) (l ++ bs) t (levels input o)) (sym (none_ahead h calm)) takes;
       ready = record { solid = gotten_on g ready.solid; fit = fit; waits = tt; held = takes_within ready.held takes };
+      origin = origin;
       shows = shows;
     }
 

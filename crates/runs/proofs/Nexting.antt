@@ -19,7 +19,7 @@ use Rattle.de.specs.Shown.{shown}
 use Rattle.de.specs.Steps.{Body, Out, gives, stops, step, puts, text_space}
 use Rattle.de.specs.Calls.{State, Meets, Off, telling, latch, here, in_body, next_by, next_turn, next_call, next_puts, turn_puts, unless_latched}
 use Rattle.de.specs.Made.{Moment, Made, NextAnswer}
-use Rattle.runs.specs.Law.{lent_bytes, running, phase, phase_after, first_for_good, RefusedAgrees, Agrees, Whole, hands_out, Cramped, Reads, IfRefused, ForGoodOrRoom, is_open}
+use Rattle.runs.specs.Law.{all_bytes, running, phase, phase_after, first_for_good, RefusedAgrees, Agrees, Whole, hands_out, Cramped, Reads, IfRefused, ForGoodOrRoom, is_open}
 use Rattle.runs.proofs.Stepped.{ForGoodOrWaits, Stepped, Stopped, Tight, can_give, must_wait}
 use Rattle.runs.proofs.Stepping.{step_gives, step_stops}
 use Rattle.runs.proofs.Ending.{step_none, step_done}
@@ -71,24 +71,24 @@ module _ {lends : Bool} {v : View} {h : List Moment} {s : State} (k : Kept lends
   one_kept g loose e c x buf gave a text counts = record {
     latch = latch_none h m loose adv.live.drawn g.unlatched (ap (first_for_good None) a);
     tale = inr (story_on g.story m (in_body s c) (st.says ∷ []) adv.taken_now
-        (subst (λ a. Agrees lends v m a (st.says ∷ []) (g.story.start + length g.story.taken) (g.story.start + length adv.taken_now)) (sym a) (ap (λ t. t ∷ []) shows, sym adv.here ∙ sym counts))
+        (subst (λ a. Agrees lends v m a (st.says ∷ []) (g.story.start + length g.story.taken) (g.story.start + length adv.taken_now)) (sym a) (st.origin, ap (λ t. t ∷ []) shows, sym adv.here ∙ sym counts))
         (passing_of adv.live) refl (rw loose (let at = adv.here in omega arith)) (stays g m (in_body s c) (calm m.answer) refl (rw loose (goes_on adv.live))));
   }
     where
-      st : Stepped lends (lent_bytes lends v) s.body e c x
+      st : Stepped lends (all_bytes v) s.body e c x
       st = step_gives (Some room) s.body e c x g.live.ready gave
 
       adv : Advanced lends v g.story.start g.story.size g.story.taken (g.story.es ++ (st.says ∷ [])) c
       adv = advance g.story.small g.live st
 
-      shows : st.says ≡ shown (lent_bytes lends v) m.text e
+      shows : st.says ≡ shown (all_bytes v) m.text e
       shows = sym (rw text (st.shows buf))
 
   refused_kept : (g : Ongoing lends v h s) → s.latched ≡ None → (t : State) (f : Refusal) (c : Body) (x : List ℕ) → step lends (Some room) s.body ≡ stops f c x → m.answer ≡ answer.Refused f →
       Off f (latch f (in_body s c)) t → Kept lends v (h ++ (m ∷ [])) t
   refused_kept g loose t f c x stop a off = go st.kind
     where
-      st : Stopped lends (lent_bytes lends v) (Some room) s.body f c
+      st : Stopped lends (all_bytes v) (Some room) s.body f c
       st = step_stops (Some room) s.body f c x g.live.ready stop
 
       agrees : (d : ℕ) → Agrees lends v m m.answer [] d d
@@ -97,7 +97,7 @@ module _ {lends : Bool} {v : View} {h : List Moment} {s : State} (k : Kept lends
       counts : t.body.reader.count ≡ c.reader.count
       counts = count_left f.cause c.reader t.body.reader off.body.reader
 
-      go : ForGoodOrWaits lends (lent_bytes lends v) (Some room) f s.body c → Kept lends v (h ++ (m ∷ [])) t
+      go : ForGoodOrWaits lends (all_bytes v) (Some room) f s.body c → Kept lends v (h ++ (m ∷ [])) t
       go (inl latches) =
           let caught : t.latched ≡ Some f = off.latched ∙ latched_by s.latched latches in
           let stands = stuck (Some room) g.live st stop latches t.body off.body.opens off.body.events (rw counts (stopped_inside g.live st)) in
@@ -141,7 +141,7 @@ module _ {lends : Bool} {v : View} {h : List Moment} {s : State} (k : Kept lends
       copies true limited = absurd (limited refl)
       copies false limited = refl
 
-      kind : (f : Refusal) {c : Body} → ForGoodOrWaits lends (lent_bytes lends v) (Some room) f s.body c → ForGoodOrRoom lends f
+      kind : (f : Refusal) {c : Body} → ForGoodOrWaits lends (all_bytes v) (Some room) f s.body c → ForGoodOrRoom lends f
       kind f (inl latches) = inl latches
       kind f (inr (full, limited, waiting)) = inr (copies lends limited, ap number_of full)
 
@@ -196,7 +196,7 @@ next_reads {lends} {v} {h} {s} {t} {a} {room} y on w whole made =
     go : s.latched ≡ None → s.pdu ≡ Some (record { start = y.start; length = y.size }) → Live lends v y.start y.size y.taken y.es s.body → Outlook lends (Some room) s.body y.es w →
         Reads lends w y.es (call.Next room) a
     go loose own live (at_the_end done all) =
-        let calm = none_awaited (lent_bytes lends v) s.body.unread s.body.opens live.ready.waits done in
+        let calm = none_awaited (all_bytes v) s.body.unread s.body.opens live.ready.waits done in
         let says : a ≡ answer.Done = answered_by (gives None s.body []) loose own (step_done lends (Some room) s.body calm done) (next_came made) in
         record {
           done = λ e. all;
@@ -227,7 +227,7 @@ pub next_at_end : {lends : Bool} {v : View} {h : List Moment} {s t : State} {a :
     Made (Meets (next_call lends room s)) NextAnswer a t → s.latched ≡ None → s.body.opens ≡ [] → a ≡ answer.Done
 next_at_end {lends} {v} {s = s} room y on made loose done =
     let (own, i) = in_pdu_now y on in
-    let calm = none_awaited (lent_bytes lends v) s.body.unread s.body.opens (live_now i loose).ready.waits done in
+    let calm = none_awaited (all_bytes v) s.body.unread s.body.opens (live_now i loose).ready.waits done in
     answered_by (gives None s.body []) loose own (step_done lends (Some room) s.body calm done) (next_came made)
 
 pub next_only_there : (lends : Bool) (room : ℕ) (s : State) {t : State} {a : Answer} → Made (Meets (next_call lends room s)) NextAnswer a t → a ≡ answer.Done →

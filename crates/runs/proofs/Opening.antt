@@ -16,7 +16,7 @@ use Rattle.de.specs.declared.entry.Answer.{Answer}
 use Rattle.de.specs.declared.entry.Answer.TheVariants as answer
 use Rattle.de.specs.Calls.{State, Meets, Off, telling, latch, here, opened, unopened, open_by, open_turn, open_call, unless_latched}
 use Rattle.de.specs.Made.{Moment, Made, OpenAnswer}
-use Rattle.runs.specs.Law.{lent_bytes, from, limits, Phase, none_yet, running, over, left, open_phase, phase, phase_after, open_pdu, first_for_good, for_good, RefusedAgrees, opens, count_after, HeaderAt, Opens, IfRefused, ForGood, none_open}
+use Rattle.runs.specs.Law.{all_bytes, from, limits, Phase, none_yet, running, over, left, open_phase, phase, phase_after, open_pdu, first_for_good, for_good, RefusedAgrees, opens, count_after, HeaderAt, Opens, IfRefused, ForGood, none_open}
 use Rattle.runs.proofs.Reached.{reached_first}
 use Rattle.runs.proofs.Taking.{none_taken}
 use Rattle.runs.proofs.Stepped.{Solid}
@@ -28,10 +28,10 @@ use Rattle.runs.proofs.Moments.{phase_last, drawn_of, latched_first, latch_none,
 use Rattle.runs.proofs.Turns.{Untried, again, out_of_turn, untried_free, TakenUp, untried, tried, known_of}
 use Rattle.runs.proofs.Story.{goes_on, Stands, in_pdu, behind_it, off_it, Story, story_still, Untouched, untouched_on, Kept, pdu_told, Tells, quiet}
 
-solid_first : {lends : Bool} {v : View} → Sound lends v → Solid lends (lent_bytes lends v) v
-solid_first {v = v} s = record { octets = s.octets; kept_all = s.kept_all; whole = ap (λ b. lent_bytes b v) }
+solid_first : {lends : Bool} {v : View} → Sound lends v → Solid lends (all_bytes v) v
+solid_first s = record { octets = s.octets; kept_all = s.kept_all; whole = λ e. refl }
 
-solid_drawn : {lends : Bool} {v w : View} → Sound lends v → Drawn lends v w → Solid lends (lent_bytes lends v) w
+solid_drawn : {lends : Bool} {v w : View} → Sound lends v → Drawn lends v w → Solid lends (all_bytes v) w
 solid_drawn s d = solid_on d.took (solid_first s)
 
 -- a header stands before the reader where it stands in the bytes that were there at first

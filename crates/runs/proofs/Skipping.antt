@@ -17,7 +17,7 @@ use Rattle.de.specs.declared.entry.Answer.TheVariants as answer
 use Rattle.de.specs.Steps.{Body, gives, step}
 use Rattle.de.specs.Calls.{State, telling, latch_by, here, Skip, SkipTold, SkipTurn, SkipBy, SkipCall}
 use Rattle.de.specs.Made.{Moment, Made, SkipAnswer}
-use Rattle.runs.specs.Law.{lent_bytes, running, phase, phase_after, first_for_good, stretch, Stretched, RefusedAgrees, Agrees, Whole, Reads, IfRefused, ForGood, is_open}
+use Rattle.runs.specs.Law.{all_bytes, running, phase, phase_after, first_for_good, stretch, Stretched, RefusedAgrees, Agrees, Whole, Reads, IfRefused, ForGood, is_open}
 use Rattle.runs.proofs.Taking.{Level, levels}
 use Rattle.runs.proofs.Coming as coming
 use Rattle.runs.proofs.Coming.{Completes}
@@ -75,7 +75,7 @@ passed_right {start = start} {taken = taken} {n = n} {count = count} (nothing cl
     (sym long, tt, ap (λ now. start + length now) same ∙ sym (ap (λ b. cond b (start + length taken) count) (eq-eqb n 0 long)))
 passed_right {lends} {v} {start = start} {b = b} {taken = taken} {more = more} {n = n} {count = count} (something runs there) long at = (
   sym long,
-  stretched more (stretch_of runs (sym (named_nesting (lent_bytes lends v) b.opens))),
+  stretched more (stretch_of runs (sym (named_nesting (all_bytes v) b.opens))),
   sym there ∙ sym at ∙ sym (ap (λ b. cond b (start + length taken) count) (ne_eqb n 0 (λ e. (let some = some_run runs in omega arith)))),
 )
 
@@ -106,7 +106,7 @@ module _ {lends : Bool} {v : View} {h : List Moment} {s t : State} (k : Kept len
       agrees : Agrees lends v m m.answer more (g.story.start + length g.story.taken) (g.story.start + length now)
       agrees = subst (λ a. Agrees lends v m a more (g.story.start + length g.story.taken) (g.story.start + length now)) (sym a)
           (subst (λ k. RefusedAgrees k f more (g.story.start + length g.story.taken) (g.story.start + length now)) (sym is)
-          (short 0 (named_nesting (lent_bytes lends v) s.body.opens ∙ omega arith), omega arith, stands.after))
+          (short 0 (named_nesting (all_bytes v) s.body.opens ∙ omega arith), omega arith, stands.after))
 
   pub skip_kept : Made (SkipCall lends s) SkipAnswer m.answer t → m.count ≡ t.body.reader.count → Tells m t → Kept lends v (h ++ (m ∷ [])) t
   skip_kept made counts tells = go (skip_came made)
@@ -151,12 +151,12 @@ skip_reads {lends} {v} {h} {s} {t} {a} y on w whole made =
         n ≡ stretch 0 (drop (length y.es) (events w))
     passed first (done more now live long (nothing closed same)) =
         let (r, x, body, told, completes) = still_to_come (passing_of first) w whole.declared in
-        let none_left : x ≡ [] = (coming.ended (subst (λ o. Completes none (levels (lent_bytes lends v) o) r x) closed completes)).1 in
+        let none_left : x ≡ [] = (coming.ended (subst (λ o. Completes none (levels (all_bytes v) o) r x) closed completes)).1 in
         long ∙ omega arith ∙ sym (ap (stretch 0) (to_come y.es x told ∙ none_left))
     passed first (done more now live long (something runs there)) =
         let (r, x, body, told, completes) = still_to_come (passing_of live) w whole.declared in
         let rest : drop (length y.es) (events w) ≡ more ++ x = to_come y.es (more ++ x) (told ∙ append_assoc y.es more x) in
-        long ∙ omega arith ∙ sym (ap (stretch 0) rest ∙ stretch_of runs (sym (named_nesting (lent_bytes lends v) s.body.opens)) x)
+        long ∙ omega arith ∙ sym (ap (stretch 0) rest ∙ stretch_of runs (sym (named_nesting (all_bytes v) s.body.opens)) x)
 
     go : s.latched ≡ None → s.pdu ≡ Some (record { start = y.start; length = y.size }) → Live lends v y.start y.size y.taken y.es s.body → SkipCame lends s t a →
         a ≡ answer.Skipped (stretch 0 (drop (length y.es) (events w)))
@@ -175,7 +175,7 @@ pub skip_at_end : {lends : Bool} {v : View} {h : List Moment} {s t : State} {a :
 skip_at_end {lends} {v} {s = s} {t = t} {a = a} y on made loose closed = let (own, i) = in_pdu_now y on in by own (ended (live_now i loose)) (skip_came made)
   where
     ended : Live lends v y.start y.size y.taken y.es s.body → step lends None s.body ≡ gives None s.body []
-    ended live = step_done lends None s.body (none_awaited (lent_bytes lends v) s.body.unread s.body.opens live.ready.waits closed) closed
+    ended live = step_done lends None s.body (none_awaited (all_bytes v) s.body.unread s.body.opens live.ready.waits closed) closed
 
     by : s.pdu ≡ Some (record { start = y.start; length = y.size }) → step lends None s.body ≡ gives None s.body [] → SkipCame lends s t a → a ≡ answer.Skipped 0
     by own here (passes o is free n skip says latched pdu end) = let same = none_skipped skip here in let zero : n ≡ 0 = cc in says ∙ ap answer.Skipped zero

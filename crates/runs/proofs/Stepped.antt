@@ -11,7 +11,7 @@ use Rattle.values.specs.Values as value
 use Rattle.de.specs.declared.event.Event.{Event}
 use Rattle.de.specs.Shown.{shown}
 use Rattle.de.specs.Steps.{Body, gives, stops, counted, text_space, step}
-use Rattle.runs.specs.Law.{limits, hands_out}
+use Rattle.runs.specs.Law.{HandedOut, limits, hands_out}
 use Rattle.room.specs.Open.{bytes_held}
 use Rattle.values.specs.Limits.{RoomForKeyBytes}
 use Rattle.runs.proofs.Taking.{levels, Fit, Takes, Front, Waits, names_long}
@@ -49,6 +49,7 @@ pub record Stepped (lends : Bool) (input : List ℕ) (b : Body) (e : Event) (c :
   pub events : c.events ≡ counted b.events
   pub takes : (front : List ℕ) → Front b.unread front → Takes (limits lends) (levels input b.opens) (front ++ bytes) says (levels input c.opens)
   pub ready : Ready lends input c
+  pub origin : HandedOut lends e
   pub shows : (buf : List ℕ) → shown input (fronted x buf) e ≡ says
 
 -- the buffer is too short: the tag and the length of a text are taken, and the text is awaited

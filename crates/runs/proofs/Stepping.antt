@@ -14,7 +14,7 @@ use Rattle.de.specs.declared.event.Event.{Event}
 use Rattle.de.specs.declared.event.Event.TheVariants as event
 use Rattle.de.specs.Shown.{shown}
 use Rattle.de.specs.Steps.{Body, gives, stops, due_comes, coming, column_by, column_step, finishing, step, text_space, turns, unread_comes, column_passes}
-use Rattle.runs.specs.Law.{limits}
+use Rattle.runs.specs.Law.{PartOf, HandedOut, limits}
 use Rattle.runs.proofs.Taking.{levels, named, Lies, Fit, Takes, array_ends, object_ends, row_begins, column_comes, row_ends, template_ends}
 use Rattle.runs.proofs.Taking as taking
 use Rattle.runs.proofs.Stepped.{Ready, Stepped, Stopped}
@@ -25,6 +25,15 @@ use Rattle.runs.proofs.Items.{key_made, item_made}
 
 -- ---- the key of a column
 
+-- a key lies where the reader hands out its bytes
+lent_part : (lends : Bool) (p n : ℕ) → Lies lends (lent p n) → PartOf lends (Lent p)
+lent_part true p n lie = tt
+lent_part false p n lie = lie
+
+copied_part : (lends : Bool) (bs : List ℕ) → Lies lends (copied bs) → PartOf lends Copied
+copied_part true bs lie = lie
+copied_part false bs lie = tt
+
 -- only a copying reader's text buffer is too short
 limited : (lends : Bool) (space : Option ℕ) (bs : List ℕ) → Lies lends (copied bs) → cramped space (length bs) ≡ true → text_space lends space ≡ None → ⊥
 limited true space bs lie full none = absurd lie
@@ -34,13 +43,13 @@ module _ (lends : Bool) (input : List ℕ) (space : Option ℕ) (b : Body) (read
   column_made : (c : Column) → Lies lends c → (b.opens ≡ [] → ⊥) → Takes (limits lends) (levels input b.opens) [] (value.key (named input c)) (levels input (room.row_turned b.opens)) →
       Fit lends (room.row_turned b.opens) → Made lends input space b (column_by c space b)
   column_made (lent p n) lie more takes fit =
-      passed lends input b ready calm (event.Key (record { taken = Lent p; len = n })) [] (value.key (take n (drop p input))) b.reader [] (room.row_turned b.opens) (gotten_none lends b.end b.reader) takes fit (λ buf. refl)
+      passed lends input b ready calm (event.Key (record { taken = Lent p; len = n })) [] (value.key (take n (drop p input))) b.reader [] (room.row_turned b.opens) (gotten_none lends b.end b.reader) takes fit (lent_part lends p n lie) (λ buf. refl)
   column_made (copied bs) lie more takes fit = by_room (cramped space (length bs)) refl
     where
       by_room : (q : Bool) → cramped space (length bs) ≡ q → Made lends input space b (cond q (stops (at error.Room b.reader.count) b []) (column_passes (record { taken = Copied; len = length bs }) b bs))
       by_room true full = record { after = omega arith; end = refl; opens = refl; events = refl; inside = λ h. h; more = more; kind = inr (refl, limited lends space bs lie full, waits_still lends input b ready) }
       by_room false loose =
-          passed lends input b ready calm (event.Key (record { taken = Copied; len = length bs })) bs (value.key bs) b.reader [] (room.row_turned b.opens) (gotten_none lends b.end b.reader) takes fit
+          passed lends input b ready calm (event.Key (record { taken = Copied; len = length bs })) bs (value.key bs) b.reader [] (room.row_turned b.opens) (gotten_none lends b.end b.reader) takes fit (copied_part lends bs lie)
           (λ buf. ap value.key (take_at bs (drop (length bs) buf) (length bs) refl))
 
 -- ---- a step
@@ -51,9 +60,9 @@ module _ (lends : Bool) (input : List ℕ) (space : Option ℕ) (v : View) (end 
   calm o = record { reader = v; end = end; opens = o; unread = None; events = n }
 
   turns_made : (o : List (Open Column)) → Ready lends input (calm o) → (e : Event) (t : value.Event) (l : List (Open Column)) → Takes (limits lends) (levels input o) [] t (levels input l) →
-      Fit lends l → ((buf : List ℕ) → shown input buf e ≡ t) →
+      Fit lends l → HandedOut lends e → ((buf : List ℕ) → shown input buf e ≡ t) →
       Goes lends input space (calm o) (turns e (calm o) l)
-  turns_made o ready e t l takes fit shows = passed lends input (calm o) ready refl e [] t v [] l (gotten_none lends end v) takes fit shows
+  turns_made o ready e t l takes fit origin shows = passed lends input (calm o) ready refl e [] t v [] l (gotten_none lends end v) takes fit origin shows
 
   no_gap : (o : List (Open Column)) → false ≡ true → Takes (limits lends) (levels input o) (0x0c ∷ []) value.absent (filled (levels input o))
   no_gap o e = absurd (cc)
@@ -62,14 +71,14 @@ module _ (lends : Bool) (input : List ℕ) (space : Option ℕ) (v : View) (end 
   unfolding column_step
   due_made [] ready = tt
   due_made (start ∷ o) ready = item_made lends input space (calm (start ∷ o)) ready refl tt false (no_gap (start ∷ o))
-  due_made (items zero ∷ o) ready = turns_made (items zero ∷ o) ready event.ArrayEnd value.array_end o array_ends ready.fit (λ buf. refl)
+  due_made (items zero ∷ o) ready = turns_made (items zero ∷ o) ready event.ArrayEnd value.array_end o array_ends ready.fit tt (λ buf. refl)
   due_made (items (suc m) ∷ o) ready = item_made lends input space (calm (items (suc m) ∷ o)) ready refl tt false (no_gap (items (suc m) ∷ o))
-  due_made (pairs zero ∷ o) ready = turns_made (pairs zero ∷ o) ready event.MapEnd value.map_end o object_ends ready.fit (λ buf. refl)
+  due_made (pairs zero ∷ o) ready = turns_made (pairs zero ∷ o) ready event.MapEnd value.map_end o object_ends ready.fit tt (λ buf. refl)
   due_made (pairs (suc m) ∷ o) ready = key_made lends input space (calm (pairs (suc m) ∷ o)) ready refl tt
   due_made (field m ∷ o) ready = item_made lends input space (calm (field m ∷ o)) ready refl tt false (no_gap (field m ∷ o))
-  due_made (rows ks zero ∷ o) ready = turns_made (rows ks zero ∷ o) ready event.ArrayEnd value.array_end o template_ends ready.fit.1 (λ buf. refl)
-  due_made (rows ks (suc m) ∷ o) ready = turns_made (rows ks (suc m) ∷ o) ready event.MapBegin value.map_begin (row ks ks m ∷ o) row_begins (ready.fit.0, ready.fit.0, ready.fit.1) (λ buf. refl)
-  due_made (row [] ks m ∷ o) ready = turns_made (row [] ks m ∷ o) ready event.MapEnd value.map_end (rows ks m ∷ o) row_ends (ready.fit.1, ready.fit.2) (λ buf. refl)
+  due_made (rows ks zero ∷ o) ready = turns_made (rows ks zero ∷ o) ready event.ArrayEnd value.array_end o template_ends ready.fit.1 tt (λ buf. refl)
+  due_made (rows ks (suc m) ∷ o) ready = turns_made (rows ks (suc m) ∷ o) ready event.MapBegin value.map_begin (row ks ks m ∷ o) row_begins (ready.fit.0, ready.fit.0, ready.fit.1) tt (λ buf. refl)
+  due_made (row [] ks m ∷ o) ready = turns_made (row [] ks m ∷ o) ready event.MapEnd value.map_end (rows ks m ∷ o) row_ends (ready.fit.1, ready.fit.2) tt (λ buf. refl)
   due_made (row (k ∷ l) ks m ∷ o) ready = column_made lends input space (calm (row (k ∷ l) ks m ∷ o)) ready refl k ready.fit.0.0 (λ e. cc) column_comes (ready.fit.0.1, ready.fit.1, ready.fit.2)
   due_made (cell l ks m ∷ o) ready = item_made lends input space (calm (cell l ks m ∷ o)) ready refl tt true (λ e. taking.gap_comes)
 

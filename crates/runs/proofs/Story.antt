@@ -11,7 +11,7 @@ use Rattle.de.specs.declared.entry.Answer.TheVariants as answer
 use Rattle.de.specs.Steps.{Body}
 use Rattle.de.specs.Calls.{State, fresh, telling, up_to, tally}
 use Rattle.de.specs.Made.{Moment}
-use Rattle.runs.specs.Law.{lent_bytes, from, Phase, none_yet, running, over, left, phase, phase_after, open_pdu, for_good, Agrees, RefusedAgrees, Passed, moves, taken_to, Truthful, Idle, Whole}
+use Rattle.runs.specs.Law.{all_bytes, from, Phase, none_yet, running, over, left, phase, phase_after, open_pdu, for_good, Agrees, RefusedAgrees, Passed, moves, taken_to, Truthful, Idle, Whole}
 use Rattle.runs.proofs.Taking.{levels}
 use Rattle.runs.proofs.Reached.{Reached}
 use Rattle.runs.proofs.Bodies.{Drawn, Passing, bytes_taken, Live, Stuck}
@@ -89,12 +89,11 @@ truth {lends} {v} {h} {s} y m {r} latched counts tells = record {
   some = let (w, formed, rest, begins) = reached.some in (w, formed, (rest, begins ∙ ap (λ l. l ++ rest) (sym bytes)));
   counted = tells.events ∙ y.passing.counts;
   few = let paid = reached.paid in omega arith;
-  told_bytes = rw told (let after = y.after in let fits = y.passing.fits in omega arith);
-  exactly = told ∙ ap (λ n. min n (y.start + y.size) - y.start) (place s.latched ∙ ap (λ o. taken_to o m.count) latched);
-  at_most = rw told (omega arith);
+  reach = rw told (let after = y.after in let fits = y.passing.fits in omega arith);
+  told_bytes = told ∙ ap (λ n. min n (y.start + y.size) - y.start) (place s.latched ∙ ap (λ o. taken_to o m.count) latched);
 }
   where
-    reached : Reached lends y.taken y.es (levels (lent_bytes lends v) s.body.opens)
+    reached : Reached lends y.taken y.es (levels (all_bytes v) s.body.opens)
     reached = y.passing.reached
 
     bytes : take (y.start + length y.taken - y.start) (from v y.start) ≡ y.taken

@@ -12,6 +12,7 @@ use Rattle.format.specs.declared.refusal.ReadError.TheVariants as error
 use Rattle.format.specs.declared.refusal.Cause.TheVariants as cause
 use Rattle.bunser.specs.declared.text.TextKind.{TextKind}
 use Rattle.bunser.specs.declared.text.TextKind.TheVariants as text
+use Rattle.bunser.specs.declared.text.Span.{Span}
 use Rattle.bunser.specs.declared.text.Unread.{Unread}
 use Rattle.bunser.specs.Outcome.{Outcome, got, bad, at, placed, asked}
 use Rattle.bunser.specs.Reads.{fronts}
@@ -22,7 +23,7 @@ use Rattle.values.specs.Values as value
 use Rattle.values.specs.Limits.{Limits, RoomForKeyBytes}
 use Rattle.de.specs.Shown.{shown, taken_bytes}
 use Rattle.de.specs.Steps.{Body, Out, gives, stops, moved, behind, counted, text_space, text_outcome, text_puts, text_front, text_event, behind_text, text_by, text_step}
-use Rattle.runs.specs.Law.{limits}
+use Rattle.runs.specs.Law.{PartOf, HandedOut, limits}
 use Rattle.runs.proofs.Taking.{Level, levels, Fit, names_long, Wants, Plain, bytes_are, text_is, Takes, plain_comes, Tagged, Front, head_taken, KeyWanted, TextWanted, Waits}
 use Rattle.runs.proofs.Taking as taking
 use Rattle.runs.proofs.Stepped.{ForGoodOrWaits, Solid, Ready, Stepped, Waiting, Stopped}
@@ -87,6 +88,15 @@ module _ (input : List ℕ) (v : View) (n : ℕ) (long : length (take n v.coming
   text_lies true solid = lent_bytes input v n solid
   text_lies false solid = take_at x (drop (length x) buf) n (ap length puts ∙ long) ∙ puts
 
+part_lies : (lends : Bool) (v : View) → PartOf lends (lies lends v)
+part_lies true v = tt
+part_lies false v = tt
+
+text_handed_out : (k : TextKind) (lends : Bool) (s : Span) → PartOf lends s.taken → HandedOut lends (text_event k s)
+text_handed_out text.Bytes lends s part = part
+text_handed_out text.Text lends s part = part
+text_handed_out text.Key lends s part = part
+
 text_shows : (k : TextKind) (input buf : List ℕ) (t : Taken) (n : ℕ) → shown input buf (text_event k (record { taken = t; len = n })) ≡ text_says k (taken_bytes input buf t n)
 text_shows text.Bytes input buf t n = refl
 text_shows text.Text input buf t n = refl
@@ -139,6 +149,7 @@ module _ (lends : Bool) (input : List ℕ) (b : Body) (ready : Ready lends input
         waits = tt;
         held = subst (RoomForKeyBytes (limits lends)) (sym (behind_text_holds u.kind input b.opens)) ready.held;
       };
+      origin = text_handed_out u.kind lends (record { taken = t; len = u.len }) (subst (PartOf lends) (sym r.lie) (part_lies lends b.reader));
       shows = λ buf.
           let x = text_puts u.kind b.end (text_space lends space) u.len b.reader in
           text_shows u.kind input (fronted (text_front lends x) buf) t u.len
@@ -205,6 +216,7 @@ module _ (lends : Bool) (input : List ℕ) (b c : Body) (a : Awaited lends input
         subst (λ o. Takes (limits lends) (levels input o) (front ++ (a.waiting.bytes ++ s.bytes)) s.says (levels input d.opens)) a.opens
         (subst (λ l. Takes (limits lends) (levels input c.opens) l s.says (levels input d.opens)) (append_assoc front a.waiting.bytes s.bytes) (s.takes (front ++ a.waiting.bytes) (a.waiting.front front h)));
     ready = s.ready;
+    origin = s.origin;
     shows = s.shows;
   }
   made_behind space (stops f d x) s = record {

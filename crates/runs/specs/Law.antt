@@ -10,6 +10,10 @@ use Rattle.values.specs.Values.{Value, encoding, Event, events, Formed, count_en
 use Rattle.values.specs.Limits.{Limits, Within, lending, copying}
 use Rattle.bunser.specs.declared.Header.{Header}
 use Rattle.de.specs.declared.pdu.Extent.{Extent}
+use Rattle.read.specs.declared.Taken.{Taken}
+use Rattle.read.specs.declared.Taken.TheVariants.{Lent, Copied}
+use Rattle.de.specs.declared.event.Event.{Event as GivenEvent}
+use Rattle.de.specs.declared.event.Event.TheVariants as given
 use Rattle.de.specs.declared.entry.Call.{Call}
 use Rattle.de.specs.declared.entry.Call.TheVariants as call
 use Rattle.de.specs.declared.entry.Answer.{Answer}
@@ -24,10 +28,9 @@ Begins xs ys = (rest : List _) × (ys ≡ xs ++ rest)
 abbrev pub from : View → ℕ → List ℕ
 from v n = drop (n - v.count) v.coming
 
--- what a reader that lends was given and will be: the places that it hands out lie there
-abbrev pub lent_bytes : Bool → View → List ℕ
-lent_bytes true v = v.kept ++ v.coming
-lent_bytes false v = []
+-- what was kept and what comes: of a reader that lends, all bytes, in which places lie
+abbrev pub all_bytes : View → List ℕ
+all_bytes v = v.kept ++ v.coming
 
 -- ---- what is open after some moments, and what was refused for good
 
@@ -134,6 +137,20 @@ abbrev pub Stretched : List Event → Type 0
 Stretched [] = Unit {0}
 Stretched (e ∷ es) = (behind : List Event) → stretch 0 (e ∷ (es ++ behind)) ≡ length (e ∷ es)
 
+-- bytes are a part of the input over a reader that lends, and of the text buffer over one that copies
+abbrev pub PartOf : Bool → Taken → Type 0
+PartOf true (Lent p) = Unit {0}
+PartOf true Copied = ⊥
+PartOf false (Lent p) = ⊥
+PartOf false Copied = Unit {0}
+
+-- such is the part that an event hands out, if it hands out one
+abbrev pub HandedOut : Bool → GivenEvent → Type 0
+HandedOut lends (given.Key s) = PartOf lends s.taken
+HandedOut lends (given.Bytes s) = PartOf lends s.taken
+HandedOut lends (given.Text s) = PartOf lends s.taken
+HandedOut lends e = Unit {0}
+
 -- What a call answered agrees with these events having passed at it. The last event that has passed was at the count c before the
 -- call, and is at the count d after it.
 abbrev pub RefusedAgrees : Call → Refusal → List Event → ℕ → ℕ → Type 0
@@ -145,7 +162,7 @@ RefusedAgrees (call.Close e) f more c d = (more ≡ []) × (d ≡ c)
 
 abbrev pub Agrees : Bool → View → Moment → Answer → List Event → ℕ → ℕ → Type 0
 Agrees lends v m (answer.Opened h) more c d = ⊥
-Agrees lends v m (answer.Gave e) more c d = (more ≡ shown (lent_bytes lends v) m.text e ∷ []) × (d ≡ m.count)
+Agrees lends v m (answer.Gave e) more c d = HandedOut lends e × (more ≡ shown (all_bytes v) m.text e ∷ []) × (d ≡ m.count)
 Agrees lends v m answer.Done more c d = (more ≡ []) × (d ≡ c)
 Agrees lends v m (answer.Skipped n) more c d = (length more ≡ n) × Stretched more × (d ≡ cond (n == 0) c m.count)
 Agrees lends v m (answer.Closed k) more c d = (more ≡ []) × (d ≡ c)
@@ -171,9 +188,8 @@ pub record Truthful (v : View) (start size : ℕ) (r : Option Refusal) (es : Lis
   -- at most four for each body byte
   pub few : length es ≤ 4 * (c - start)
   -- the bytes told are the body bytes taken, those up to the last event among them
-  pub told_bytes : c - start ≤ m.bytes
-  pub exactly : m.bytes ≡ min (taken_to r m.count) (start + size) - start
-  pub at_most : m.bytes ≤ size
+  pub told_bytes : m.bytes ≡ min (taken_to r m.count) (start + size) - start
+  pub reach : c - start ≤ m.bytes
 
 -- ---- a whole body is never refused, and its end is told exactly
 
@@ -272,18 +288,18 @@ pub record GoesOn (lends : Bool) (v : View) (start size : ℕ) (r : Option Refus
 
 -- ---- when a call is tried at all
 
--- A refusal for good comes again. Else a call out of turn is refused by 1, and one in turn is tried.
+-- A refusal for good comes again. Else a call out of turn is refused by 1, and of one in turn this is known.
 abbrev pub Asked : Option Refusal → Bool → Type 0 → Answer → Type 0
-Asked (Some f) in_turn tried a = a ≡ answer.Refused f
-Asked None false tried a = RefusedBy 1 a
-Asked None true tried a = tried
+Asked (Some f) in_turn known a = a ≡ answer.Refused f
+Asked None false known a = RefusedBy 1 a
+Asked None true known a = known
 
--- a refusal for good comes again to close too
+-- a close of the open PDU: a refusal for good comes again, and what else refuses it is for good
 abbrev pub Again : Option Refusal → Answer → Type 0
 Again None a = IfRefused ForGood a
 Again (Some f) a = a ≡ answer.Refused f
 
--- The token is that of the open PDU, and then it is not refused; or it is refused by 2, also after a refusal for good.
+-- A close that is given the numbers of the open PDU is not refused by 2, and so ends it. Any other is, also after a refusal for good.
 abbrev pub CloseAsked : Option Extent → Option Refusal → Extent → Answer → Type 0
 CloseAsked o r e a = ((o ≡ Some e) × Again r a) ⊎ ((o ≡ Some e → ⊥) × RefusedBy 2 a)
 
@@ -295,14 +311,15 @@ abbrev pub none_open : Option Extent → Bool
 none_open None = true
 none_open (Some e) = false
 
--- what is answered where this PDU is open or none, and this was refused for good or nothing
+-- What is answered where this PDU is open or none, and this was refused for good or nothing. In turn are open where no PDU is open,
+-- and next and skip where one is.
 abbrev pub Turn : Bool → Option Extent → Option Refusal → Call → Answer → Type 0
 Turn lends o r call.Open a = Asked r (none_open o) (IfRefused ForGood a) a
 Turn lends o r (call.Next room) a = Asked r (is_open o) (IfRefused (ForGoodOrRoom lends) a) a
 Turn lends o r call.Skip a = Asked r (is_open o) (IfRefused ForGood a) a
 Turn lends o r (call.Close e) a = CloseAsked o r e a
 
--- a call that takes nothing leaves the reader's count as it was before
+-- The count of the reader stays at n over a call that is refused by 1 or 2, after a refusal for good, and over close.
 pub record Still (n : ℕ) (r : Option Refusal) (m : Moment) : Type 0 where
   pub out_of_turn : IfRefused (λ f. number_of f.cause < 3 → (f.place ≡ n) × (m.count ≡ n)) m.answer
   pub again : (f : Refusal) → r ≡ Some f → m.count ≡ n
@@ -362,7 +379,7 @@ StoryBy (running e) lends v h m k = PduStory lends v h m k e
 StoryBy (over e) lends v h m k = PduStory lends v h m k e
 StoryBy (left e) lends v h m k = PduStory lends v h m k e
 
--- a moment, those before it and those after it
+-- what holds of a moment, of those before it and of the one after it
 pub record Lawful (lends : Bool) (v : View) (h : List Moment) (m : Moment) (k : List Moment) : Type 0 where
   pub suits : Suits m.call m.answer
   pub turn : Turn lends (open_pdu (phase h)) (for_good h) m.call m.answer
@@ -370,5 +387,6 @@ pub record Lawful (lends : Bool) (v : View) (h : List Moment) (m : Moment) (k : 
   pub opens : m.call ≡ call.Open → Opens v h m
   pub story : StoryBy (phase (h ++ (m ∷ []))) lends v h m k
 
+-- each moment of these is lawful: they are told of a reader that lends or of one that copies, and that meant this at first
 abbrev pub Law : Bool → View → List Moment → Type 0
 Law lends v told = (h : List Moment) (m : Moment) (k : List Moment) → told ≡ h ++ (m ∷ k) → Lawful lends v h m k
