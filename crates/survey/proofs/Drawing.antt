@@ -1,5 +1,5 @@
 -- Calls of next that draw events: what each leaves, and what all of them have laid out.
-use Rattle.std.proofs.Common.{◌≡◌, ℕ, zero, suc, ◌+◌, ◌<◌, ◌≤◌, min, Bool, true, false, cond, List, [], ◌∷◌, ◌++◌, length, set, Some, None, Ok, Err, Option, Result, refl, sym, ap, ◌∙◌, subst, arith}
+use Rattle.std.proofs.Common.{◌≡◌, ℕ, suc, ◌+◌, ◌<◌, ◌≤◌, min, true, List, [], ◌∷◌, ◌++◌, length, set, Some, None, Ok, Err, Option, Result, refl, sym, ap, ◌∙◌, subst, arith}
 use Rattle.source.specs.Feed.{fronted}
 use Rattle.format.specs.declared.refusal.Refusal.{Refusal}
 use Rattle.de.specs.declared.event.Event.{Event}
@@ -8,13 +8,13 @@ use Rattle.de.specs.declared.pdu.Extent.{Extent}
 use Rattle.de.specs.declared.entry.Call.TheVariants as call
 use Rattle.de.specs.declared.entry.Answer.{Answer}
 use Rattle.de.specs.declared.entry.Answer.TheVariants as answer
-use Rattle.de.specs.Steps.{Body, Out, gives, stops, step}
-use Rattle.de.specs.Calls.{State, Answered, gave, told, cut, Meets, next_by, next_turn, next_call, next_puts, tally, unless_latched, Off}
+use Rattle.de.specs.Steps.{Out, gives, stops, step}
+use Rattle.de.specs.Calls.{State, Answered, gave, told, cut, Meets, next_by, next_turn, next_call, next_puts, tally, unless_latched}
 use Rattle.de.specs.Made.{Moment, AsTold, NextAnswer, Logged}
 use Rattle.de.proofs.Falling.{left, step_falls}
 use Rattle.survey.specs.declared.slot.Slot.{Slot}
 use Rattle.survey.specs.Slots.{slot_of, laid}
-use Rattle.survey.specs.Surveys.{Calls, no_more, then_one, Gives, GaveNone, GivesNone, Drawn}
+use Rattle.survey.specs.Surveys.{Calls, no_more, then_one, Gives, GaveNone, Drawn}
 
 -- ---- one call
 

@@ -19,7 +19,7 @@ use Rattle.runs.proofs.Lawful.{Told, none_yet, told_more, lawful}
 use Rattle.survey.specs.declared.slot.Slot.{Slot}
 use Rattle.survey.specs.declared.verdict.Verdict.{Verdict}
 use Rattle.survey.specs.Verdicts.{acceptance, refusal_verdict}
-use Rattle.survey.specs.Surveys.{table_view, Calls, no_more, then_one, Drawn, Reads, not_opened, to_the_end, Answers, ReadOut, Judged, Surveyed}
+use Rattle.survey.specs.Surveys.{table_view, Calls, no_more, then_one, Drawn, not_opened, to_the_end, Answers, ReadOut, Judged, Surveyed}
 use Rattle.survey.proofs.Drawing.{as_told}
 
 -- a call that leaves no text, seen from outside

@@ -1,13 +1,12 @@
 -- What came of a table, in plain numbers.
 use Rattle.std.specs.Prelude.{ℕ, slice_index}
 use Rattle.std.specs.Int.NonZero.{non_zero_u16_get}
-use Rattle.source.specs.declared.fault.SourceFault.{SourceFault}
 use Rattle.format.specs.declared.refusal.ReadError.{ReadError}
-use Rattle.format.specs.declared.refusal.ReadError.TheVariants.{End, Stop, Room, Short, Source, Magic, Byte, Negative, TooLong, NotText}
+use Rattle.format.specs.declared.refusal.ReadError.TheVariants.{Source, Magic, Byte}
 use Rattle.format.specs.declared.refusal.Kind.{Kind}
 use Rattle.format.specs.declared.refusal.Kind.TheVariants.{Integer, NextItem, MapKey, KeyList, TemplateKey}
 use Rattle.format.specs.declared.refusal.Cause.{Cause}
-use Rattle.format.specs.declared.refusal.Cause.TheVariants.{OutOfTurn, Token, Read, Depth, KeyRoom, NoKeys, Unfinished, Length}
+use Rattle.format.specs.declared.refusal.Cause.TheVariants.{Read, Length}
 use Rattle.format.specs.declared.refusal.Layer.{Layer}
 use Rattle.format.specs.declared.refusal.Layer.TheVariants as layer
 use Rattle.format.specs.declared.refusal.Refusal.{Refusal}
