@@ -1,0 +1,33 @@
+//! What a program in C or Rust links: a table at once, over memory that the caller has. Nothing here allocates.
+#![tactic(auto)]
+
+ghost use Rattle.std.specs.Prelude.{◌≡◌, []};
+ghost use Rattle.survey.specs.Surveys.{Surveyed};
+
+use de::decoder::Decoder;
+use read::slice::SliceRead;
+use survey::slot::Slot;
+use survey::table::survey;
+use survey::verdict::Verdict;
+
+/// Whether the PDU at the start of the table is accepted, or which refusal it met, and how many events have passed.
+#[unsafe(no_mangle)]
+pub extern "C" fn yieldnext_check(table: &[u8]) -> Verdict
+    ensures { Surveyed table.now [] result [] }
+{
+    survey(table, &mut [])
+}
+
+/// The same, and the events laid out in the slots, as many as fit. The slots behind them stay as they were.
+#[unsafe(no_mangle)]
+pub extern "C" fn yieldnext_events(table: &[u8], slots: &mut [Slot]) -> Verdict
+    ensures { Surveyed table.now slots.old result slots.new }
+{
+    survey(table, slots)
+}
+
+/// How many bytes a decoder holds, all of them on the stack of either call.
+#[unsafe(no_mangle)]
+pub extern "C" fn yieldnext_decoder_size() -> usize {
+    size_of::<Decoder<SliceRead>>()
+}

@@ -1,0 +1,128 @@
+-- A PDU that is read out: the calls before and behind the draws, and the law of all of them.
+use Rattle.std.proofs.Common.{◌≡◌, ℕ, true, false, List, [], ◌∷◌, ◌++◌, Some, None, Ok, Err, Option, Result, refl, sym, ap, ◌∙◌, subst, append-nil, append_assoc}
+use Rattle.read.specs.declared.slice.SliceRead.{SliceRead}
+use Rattle.read.specs.Reader.{View, Sound}
+use Rattle.read.specs.Slice.{slice_view, slice_sound}
+use Rattle.format.specs.declared.refusal.Refusal.{Refusal}
+use Rattle.de.specs.declared.event.Refused.{Refused}
+use Rattle.de.specs.declared.pdu.Extent.{Extent}
+use Rattle.de.specs.declared.pdu.PduInfo.{PduInfo}
+use Rattle.de.specs.declared.pdu.Closed.{Closed}
+use Rattle.de.specs.declared.entry.Call.{Call}
+use Rattle.de.specs.declared.entry.Call.TheVariants as call
+use Rattle.de.specs.declared.entry.Answer.{Answer}
+use Rattle.de.specs.declared.entry.Answer.TheVariants as answer
+use Rattle.de.specs.Calls.{State, fresh, Meets, open_call, close_own, close_call, tally}
+use Rattle.de.specs.Made.{Moment, OpenAnswer, CloseAnswer, Logged, token}
+use Rattle.runs.specs.Law.{Law}
+use Rattle.runs.proofs.Lawful.{Told, none_yet, told_more, lawful}
+use Rattle.survey.specs.declared.slot.Slot.{Slot}
+use Rattle.survey.specs.declared.verdict.Verdict.{Verdict}
+use Rattle.survey.specs.Verdicts.{acceptance, refusal_verdict}
+use Rattle.survey.specs.Surveys.{table_view, Calls, no_more, then_one, Drawn, not_opened, to_the_end, Answers, ReadOut, Judged, Surveyed}
+use Rattle.survey.proofs.Drawing.{as_told}
+
+-- a call that leaves no text, seen from outside
+abbrev pub moment_of : Call → Answer → State → Moment
+moment_of c a t = record { call = c; answer = a; count = t.body.reader.count; events = (tally t).0; bytes = (tally t).1; text = [] }
+
+abbrev pub extent_of : PduInfo → Extent
+extent_of p = record { start = p.header.start; length = p.header.length }
+
+open_logged : {s t : State} {a : Answer} (r : Result PduInfo Refused) → Meets (open_call true s) r t → OpenAnswer r t a → Logged true s (moment_of call.Open a t) t
+open_logged r meets answers = record { made = (record { result = r; meets = meets; answers = answers }, refl); counts = refl; told_events = refl; told_bytes = refl }
+
+-- of a token the two numbers alone are asked about
+same_token : (p : PduInfo) (s : State) (o : Option Extent) → close_own o p s ≡ close_own o (token 0 (extent_of p)) s
+same_token p s None = refl
+same_token p s (Some e) = refl
+
+close_logged : {s t : State} {a : Answer} (p : PduInfo) (r : Result Closed Refused) → Meets (close_call p s) r t → CloseAnswer r t a → Logged true s (moment_of (call.Close (extent_of p)) a t) t
+close_logged {s} {t} p r meets answers = record {
+  made = (record { result = r; meets = subst (λ m. Meets m r t) (same_token p s s.pdu) meets; answers = answers }, refl);
+  counts = refl;
+  told_events = refl;
+  told_bytes = refl;
+}
+
+calls_append : {s t u : State} {h k : List Moment} → Calls s h t → Calls t k u → Calls s (h ++ k) u
+calls_append {s} {t} {h = h} c no_more = subst (λ h. Calls s h t) (sym (append-nil h)) c
+calls_append {s} {u = u} {h = h} c (then_one {h = k} m d l) = subst (λ h. Calls s h u) (append_assoc h k (m ∷ [])) (then_one m (calls_append c d) l)
+
+-- ---- what is read
+
+pub refused_at_once : {s t : State} {old : List Slot} (r : Refused) (f : Refusal) → Meets (open_call true s) (Err r) t → t.refused ≡ Some f → ReadOut s old (Err f) t old
+refused_at_once {t = t} r f meets is = record {
+  told = moment_of call.Open (answer.Refused f) t ∷ [];
+  events = [];
+  last = moment_of call.Open (answer.Refused f) t;
+  reads = not_opened (moment_of call.Open (answer.Refused f) t) refl (f, refl);
+  calls = then_one (moment_of call.Open (answer.Refused f) t) no_more (open_logged (Err r) meets (as_told is));
+  answers = refl;
+  count = refl;
+  counted = refl;
+  slots = refl;
+}
+
+abbrev opened_at : PduInfo → State → Moment
+opened_at p a = moment_of call.Open (answer.Opened p.header) a
+
+module _ {s a b t : State} {old new : List Slot} (p : PduInfo) (opened : Meets (open_call true s) (Ok p) a) (d : Drawn a old b new) where
+  ends : (r : Result Closed Refusal) (x : Answer) → Answers r x → Logged true b (moment_of (call.Close (extent_of p)) x t) t → ReadOut s old r t new
+  ends r x answers logged = record {
+    told = opened_at p a ∷ (d.told ++ (d.last ∷ n ∷ []));
+    events = d.events;
+    last = n;
+    reads = to_the_end (opened_at p a) d.told d.events d.last n refl refl d.gives d.gives_none refl;
+    calls = subst (λ h. Calls s (opened_at p a ∷ h) t) (append_assoc d.told (d.last ∷ []) (n ∷ [])) (then_one n (calls_append (then_one (opened_at p a) no_more (open_logged (Ok p) opened refl)) d.calls) logged);
+    answers = answers;
+    count = refl;
+    counted = refl;
+    slots = d.slots;
+  }
+    where
+      n : Moment
+      n = moment_of (call.Close (extent_of p)) x t
+
+  pub accepted_at_end : (k : Closed) → Meets (close_call p b) (Ok k) t → ReadOut s old (Ok k) t new
+  accepted_at_end k meets = ends (Ok k) (answer.Closed k) refl (close_logged p (Ok k) meets refl)
+
+  pub refused_at_end : (r : Refused) (f : Refusal) → Meets (close_call p b) (Err r) t → t.refused ≡ Some f → ReadOut s old (Err f) t new
+  refused_at_end r f meets is = ends (Err f) (answer.Refused f) refl (close_logged p (Err r) meets (as_told is))
+
+-- ---- the law
+
+told_of : {s t : State} {h : List Moment} → Calls s h t → Told true s h t
+told_of no_more = none_yet
+told_of (then_one m c l) = told_more m (told_of c) l
+
+pub calls_lawful : {v : View} {t : State} {h : List Moment} → Sound true v → Calls (fresh v) h t → Law true v h
+calls_lawful sound c = lawful sound (told_of c)
+
+-- a new decoder over a table
+pub read_lawful : {s t : State} {h : List Moment} (r : SliceRead) (table : List ℕ) → r.slice.now ≡ table → r.index ≡ 0 → r.peeked ≡ false → s ≡ fresh (slice_view r) → Calls s h t → Law true (table_view table) h
+read_lawful {s} {t} {h} r table bytes place free new c = subst (λ v. Law true v h) same (calls_lawful (slice_sound r) (subst (λ s. Calls s h t) new c))
+  where
+    same : slice_view r ≡ table_view table
+    same = rw (bytes, place, free) refl
+
+-- the outcome in plain numbers
+abbrev pub verdict_of : Result Closed Refusal → ℕ → ℕ → Verdict
+verdict_of (Ok k) events taken = acceptance events taken
+verdict_of (Err f) events taken = refusal_verdict f events taken
+
+pub surveyed : {table : List ℕ} {s t : State} {old new : List Slot} {r : Result Closed Refusal} {v : Verdict} {events taken : ℕ} (d : ReadOut s old r t new) → Law true (table_view table) d.told →
+    events ≡ (tally t).0 → taken ≡ t.body.reader.count → v ≡ verdict_of r events taken → Surveyed table old v new
+surveyed {r = r} {v = v} {events = events} {taken = taken} d law counted takes is = record {
+  told = d.told;
+  events = d.events;
+  last = d.last;
+  reads = d.reads;
+  lawful = law;
+  judged = judged r d.answers (is ∙ ap (λ n. verdict_of r n taken) (counted ∙ sym d.counted) ∙ ap (verdict_of r d.last.events) (takes ∙ sym d.count));
+  slots = d.slots;
+}
+  where
+    judged : (r : Result Closed Refusal) → Answers r d.last.answer → v ≡ verdict_of r d.last.events d.last.count → Judged d.last.answer d.last v
+    judged (Ok k) answers is = subst (λ a. Judged a d.last v) (sym answers) is
+    judged (Err f) answers is = subst (λ a. Judged a d.last v) (sym answers) is

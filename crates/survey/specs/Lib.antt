@@ -1,0 +1,3 @@
+pub mod Slots
+pub mod Verdicts
+pub mod Surveys
