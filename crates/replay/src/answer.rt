@@ -6,6 +6,7 @@ use de::pdu::Closed;
 use format::refusal::Refusal;
 use std::fmt;
 
+/// An answer, which is printed as one line.
 #[derive(Clone, Copy)]
 pub enum Answer<'a> {
     /// A decoder was made.
