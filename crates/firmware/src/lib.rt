@@ -3,6 +3,7 @@
 
 ghost use Rattle.std.specs.Prelude.{◌≡◌, []};
 ghost use Rattle.survey.specs.Surveys.{Surveyed};
+ghost use Rattle.survey.specs.Tables.{Means};
 
 use de::decoder::Decoder;
 use read::slice::SliceRead;
@@ -13,7 +14,8 @@ use survey::verdict::Verdict;
 /// Whether the PDU at the start of the table is accepted, or which refusal it met, and how many events have passed.
 #[unsafe(no_mangle)]
 pub extern "C" fn yieldnext_check(table: &[u8]) -> Verdict
-    ensures { Surveyed table.now [] result [] }
+    ensures reads { Surveyed table.now [] result [] }
+    ensures means { Means table.now [] result [] }
 {
     survey(table, &mut [])
 }
@@ -21,7 +23,8 @@ pub extern "C" fn yieldnext_check(table: &[u8]) -> Verdict
 /// The same, and the events laid out in the slots, as many as fit. The slots behind them stay as they were.
 #[unsafe(no_mangle)]
 pub extern "C" fn yieldnext_events(table: &[u8], slots: &mut [Slot]) -> Verdict
-    ensures { Surveyed table.now slots.old result slots.new }
+    ensures reads { Surveyed table.now slots.old result slots.new }
+    ensures means { Means table.now slots.old result slots.new }
 {
     survey(table, slots)
 }

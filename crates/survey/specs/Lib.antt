@@ -1,3 +1,4 @@
 pub mod Slots
 pub mod Verdicts
 pub mod Surveys
+pub mod Tables

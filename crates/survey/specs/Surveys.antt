@@ -1,5 +1,5 @@
 -- The calls by which a table is read, and what comes of them.
-use Rattle.std.specs.Prelude.{◌≡◌, ℕ, true, false, List, [], ◌∷◌, ◌++◌, None, Ok, Err, Result}
+use Rattle.std.specs.Prelude.{◌≡◌, ℕ, ◌+◌, true, false, List, [], ◌∷◌, ◌++◌, None, Ok, Err, Result}
 use Rattle.read.specs.Reader.{View}
 use Rattle.format.specs.declared.refusal.Refusal.{Refusal}
 use Rattle.bunser.specs.declared.Header.{Header}
@@ -52,11 +52,11 @@ pub record Drawn (s : State) (old : List Slot) (t : State) (new : List Slot) : T
   pub slots : new ≡ laid events old
 
 -- The calls that read a PDU: open, next until it gives none, and close with the header that open answered. A refused open is the
--- only call. These events were given, and this is the last call.
+-- only call. These events were given, and this is the last call. A close that accepts leaves the reader where the declared body ends.
 pub data Reads : List Moment → List Event → Moment → Type 0 where
   not_opened : (m : Moment) → m.call ≡ call.Open → Refuses m.answer → Reads (m ∷ []) [] m
   to_the_end : (m : Moment) {h : Header} (told : List Moment) (events : List Event) (last n : Moment) → m.call ≡ call.Open → m.answer ≡ answer.Opened h → Gives told events → GivesNone last →
-      n.call ≡ call.Close (record { start = h.start; length = h.length }) → Reads (m ∷ (told ++ (last ∷ n ∷ []))) events n
+      n.call ≡ call.Close (record { start = h.start; length = h.length }) → ((k : Closed) → n.answer ≡ answer.Closed k → n.count ≡ h.start + h.length) → Reads (m ∷ (told ++ (last ∷ n ∷ []))) events n
 
 -- what a call answered: this, or this refusal
 abbrev pub Answers : Result Closed Refusal → Answer → Type 0
