@@ -24,6 +24,7 @@ use Rattle.runs.proofs.Moments.{last_same, phase_last}
 use Rattle.survey.specs.declared.slot.Slot.{Slot}
 use Rattle.survey.specs.declared.verdict.Verdict.{Verdict}
 use Rattle.survey.specs.Slots.{laid}
+use Rattle.survey.specs.Inside.{EventsInside}
 use Rattle.survey.specs.Surveys.{table_view, Gives, GaveNone, GivesNone, Reads, not_opened, to_the_end, Judged, Surveyed}
 use Rattle.survey.specs.Tables.{Holds, shows, Means}
 
@@ -320,20 +321,22 @@ closed_at_0 n v j zero = go n.answer refl j
     go answer.Done is j = absurd j
 
 pub means : {table : List ℕ} {old new : List Slot} {v : Verdict} → Surveyed table old v new → Means table old v new
-means {table} {old} {new} {v} s = go s.reads s.lawful s.judged s.slots
+means {table} {old} {new} {v} s = go s.reads s.lawful s.judged s.slots s.inside
   where
-    go : {told : List Moment} {gs : List GivenEvent} {n : Moment} → Reads told gs n → Law true (table_view table) told → Judged n.answer n v → new ≡ laid gs old → Means table old v new
-    go (not_opened m is_open (f, refused)) law judged slots = record {
+    go : {told : List Moment} {gs : List GivenEvent} {n : Moment} → Reads told gs n → Law true (table_view table) told → Judged n.answer n v → new ≡ laid gs old → EventsInside (length table) gs → Means table old v new
+    go (not_opened m is_open (f, refused)) law judged slots inside = record {
       given = [];
       counted = events_told m v judged ∙ (subst (λ p. StoryBy p true (table_view table) [] m []) (ap (λ c. phase_after none_yet c m.answer) is_open ∙ ap (open_phase none_yet) refused) (law [] m [] refl).story).no_events;
       slots = slots;
+      inside = inside;
       accepted = λ zero. absurd (number_some f.cause (sym (ap (λ (v : Verdict). v.number) (judged_as v m refused judged)) ∙ zero));
       whole = λ caps start size w holds within. let again = ((law [] m [] refl).opens is_open).accepts refl refl caps start size holds.header in absurd (cc);
     }
-    go (to_the_end m {h} t gs last n is_open opened gives none close ends) law judged slots = record {
+    go (to_the_end m {h} t gs last n is_open opened gives none close ends) law judged slots inside = record {
       given = gs;
       counted = events_told n v judged ∙ behind_close table v m h t gs last n law is_open opened gives none close judged;
       slots = slots;
+      inside = inside;
       accepted = λ zero.
           let (k, is) = closed_at_0 n v judged zero in
           let (w, holds, told) = holds_value table v m h t gs last n law is_open opened gives none close judged k is in

@@ -8,6 +8,7 @@ use Rattle.runs.specs.Law.{HeaderAt, Declared}
 use Rattle.survey.specs.declared.slot.Slot.{Slot}
 use Rattle.survey.specs.declared.verdict.Verdict.{Verdict}
 use Rattle.survey.specs.Slots.{laid}
+use Rattle.survey.specs.Inside.{EventsInside}
 use Rattle.survey.specs.Surveys.{table_view}
 
 -- at the front of the table stands a PDU with this header, whose declared body is the whole encoding of this value
@@ -35,6 +36,8 @@ pub record Means (table : List ℕ) (old : List Slot) (v : Verdict) (new : List 
   pub given : List GivenEvent
   pub counted : v.events ≡ length given
   pub slots : new ≡ laid given old
+  -- the bytes that they hand out lie in the table
+  pub inside : EventsInside (length table) given
   -- an accepted table holds a value, and those are its events
   pub accepted : v.number ≡ 0 → Accepted table v given
   -- a table that holds a value within the limits is accepted
