@@ -11,6 +11,11 @@ use survey::slot::Slot;
 use survey::table::survey;
 use survey::verdict::Verdict;
 
+// firmware/yieldnext.h says so too.
+const _: () = prove!(size_of::<Slot>() == 32);
+
+const _: () = prove!(size_of::<Verdict>() == 48);
+
 /// Whether the PDU at the start of the table is accepted, or which refusal it met, and how many events have passed.
 #[unsafe(no_mangle)]
 pub extern "C" fn yieldnext_check(table: &[u8]) -> Verdict
@@ -31,6 +36,8 @@ pub extern "C" fn yieldnext_events(table: &[u8], slots: &mut [Slot]) -> Verdict
 
 /// How many bytes a decoder holds, all of them on the stack of either call.
 #[unsafe(no_mangle)]
-pub extern "C" fn yieldnext_decoder_size() -> usize {
+pub extern "C" fn yieldnext_decoder_size() -> usize
+    ensures { result ≡ 15600 }
+{
     size_of::<Decoder<SliceRead>>()
 }
