@@ -3,6 +3,7 @@
 
 ghost use Rattle.std.specs.Prelude.{◌≡◌, []};
 ghost use Rattle.survey.specs.Surveys.{Surveyed};
+ghost use Rattle.survey.specs.Tables.{Means};
 
 use de::decoder::Decoder;
 use read::slice::SliceRead;
@@ -10,10 +11,16 @@ use survey::slot::Slot;
 use survey::table::survey;
 use survey::verdict::Verdict;
 
+// firmware/yieldnext.h says so too.
+const _: () = prove!(size_of::<Slot>() == 32);
+
+const _: () = prove!(size_of::<Verdict>() == 48);
+
 /// Whether the PDU at the start of the table is accepted, or which refusal it met, and how many events have passed.
 #[unsafe(no_mangle)]
 pub extern "C" fn yieldnext_check(table: &[u8]) -> Verdict
-    ensures { Surveyed table.now [] result [] }
+    ensures reads { Surveyed table.now [] result [] }
+    ensures means { Means table.now [] result [] }
 {
     survey(table, &mut [])
 }
@@ -21,13 +28,16 @@ pub extern "C" fn yieldnext_check(table: &[u8]) -> Verdict
 /// The same, and the events laid out in the slots, as many as fit. The slots behind them stay as they were.
 #[unsafe(no_mangle)]
 pub extern "C" fn yieldnext_events(table: &[u8], slots: &mut [Slot]) -> Verdict
-    ensures { Surveyed table.now slots.old result slots.new }
+    ensures reads { Surveyed table.now slots.old result slots.new }
+    ensures means { Means table.now slots.old result slots.new }
 {
     survey(table, slots)
 }
 
 /// How many bytes a decoder holds, all of them on the stack of either call.
 #[unsafe(no_mangle)]
-pub extern "C" fn yieldnext_decoder_size() -> usize {
+pub extern "C" fn yieldnext_decoder_size() -> usize
+    ensures { result ≡ 15600 }
+{
     size_of::<Decoder<SliceRead>>()
 }

@@ -8,12 +8,14 @@ use Rattle.de.specs.declared.pdu.Extent.{Extent}
 use Rattle.de.specs.declared.entry.Call.TheVariants as call
 use Rattle.de.specs.declared.entry.Answer.{Answer}
 use Rattle.de.specs.declared.entry.Answer.TheVariants as answer
-use Rattle.de.specs.Steps.{Out, gives, stops, step}
+use Rattle.de.specs.Steps.{Body, Out, gives, stops, step}
 use Rattle.de.specs.Calls.{State, Answered, gave, told, cut, Meets, next_by, next_turn, next_call, next_puts, tally, unless_latched}
 use Rattle.de.specs.Made.{Moment, AsTold, NextAnswer, Logged}
 use Rattle.de.proofs.Falling.{left, step_falls}
 use Rattle.survey.specs.declared.slot.Slot.{Slot}
 use Rattle.survey.specs.Slots.{slot_of, laid}
+use Rattle.survey.specs.Inside.{EventInside, EventsInside, BodyInside}
+use Rattle.survey.proofs.Inside.{StepInside, step_inside}
 use Rattle.survey.specs.Surveys.{Calls, no_more, then_one, Gives, GaveNone, Drawn}
 
 -- ---- one call
@@ -34,23 +36,38 @@ next_moment s t a = record { call = call.Next 0; answer = a; count = t.body.read
 next_logged : {s t : State} {a : Answer} (r : Result (Option Event) Refused) → Meets (next_call true 0 s) r t → NextAnswer r t a → Logged true s (next_moment s t a) t
 next_logged r meets answers = record { made = (record { result = r; meets = meets; answers = answers }, refl); counts = refl; told_events = refl; told_bytes = refl }
 
--- an event was given: less is left
-pub next_falls : (s t : State) (e : Event) → Meets (next_call true 0 s) (Ok (Some e)) t → left t.body < left s.body
-next_falls s t e h = latch s.latched h
+-- an event was given by a step
+record Steps (s t : State) (e : Event) : Type 0 where
+  body : Body
+  front : List ℕ
+  gave : step true (Some 0) s.body ≡ gives (Some e) body front
+  same : t.body ≡ body
+
+next_steps : (s t : State) (e : Event) → Meets (next_call true 0 s) (Ok (Some e)) t → Steps s t e
+next_steps s t e h = latch s.latched h
   where
-    by : (o : Out) → step true (Some 0) s.body ≡ o → Meets (next_by o s) (Ok (Some e)) t → left t.body < left s.body
+    by : (o : Out) → step true (Some 0) s.body ≡ o → Meets (next_by o s) (Ok (Some e)) t → Steps s t e
     by (gives o b x) is (comes, same) =
         let given : o ≡ Some e = cc in
-        subst (λ b. left b < left s.body) (sym (ap (λ (s : State). s.body) same)) (step_falls true (Some 0) s.body e b x (is ∙ ap (λ o. gives o b x) given))
+        record { body = b; front = x; gave = is ∙ ap (λ o. gives o b x) given; same = ap (λ (s : State). s.body) same }
     by (stops f b x) is (comes, off) = absurd (cc)
 
-    turn : (p : Option Extent) → Meets (next_turn p true 0 s) (Ok (Some e)) t → left t.body < left s.body
+    turn : (p : Option Extent) → Meets (next_turn p true 0 s) (Ok (Some e)) t → Steps s t e
     turn None (comes, same) = absurd (cc)
     turn (Some p) meets = by (step true (Some 0) s.body) refl meets
 
-    latch : (o : Option Refusal) → Meets (unless_latched o s (next_turn s.pdu true 0 s)) (Ok (Some e)) t → left t.body < left s.body
+    latch : (o : Option Refusal) → Meets (unless_latched o s (next_turn s.pdu true 0 s)) (Ok (Some e)) t → Steps s t e
     latch (Some f) (comes, same) = absurd (cc)
     latch None meets = turn s.pdu meets
+
+-- less is left then
+pub next_falls : (s t : State) (e : Event) → Meets (next_call true 0 s) (Ok (Some e)) t → left t.body < left s.body
+next_falls s t e h = let q = next_steps s t e h in subst (λ b. left b < left s.body) (sym q.same) (step_falls true (Some 0) s.body e q.body q.front q.gave)
+
+next_inside : (size : ℕ) (s t : State) (e : Event) → Meets (next_call true 0 s) (Ok (Some e)) t → BodyInside size s.body → EventInside size e × BodyInside size t.body
+next_inside size s t e h inside =
+    let q = next_steps s t e h in
+    subst (λ b. EventInside size e × BodyInside size b) (sym q.same) (subst (λ o. StepInside size o) q.gave (step_inside size (Some 0) s.body inside))
 
 -- ---- events in slots
 
@@ -59,6 +76,10 @@ gives_more [] [] m e g is given = (is, given, tt)
 gives_more [] (f ∷ es) m e g is given = absurd g
 gives_more (n ∷ h) [] m e g is given = absurd g
 gives_more (n ∷ h) (f ∷ es) m e (next, event, g) is given = (next, event, gives_more h es m e g is given)
+
+inside_more : (size : ℕ) (es : List Event) (e : Event) → EventsInside size es → EventInside size e → EventsInside size (es ++ (e ∷ []))
+inside_more size [] e all one = (one, tt)
+inside_more size (f ∷ es) e (first, all) one = (first, inside_more size es e all one)
 
 -- one more event goes to the first slot that is free
 laid_more : (es : List Event) (e : Event) (xs : List Slot) → length es < length xs → laid (es ++ (e ∷ [])) xs ≡ set (laid es xs) (length es) (slot_of e)
@@ -92,11 +113,12 @@ pub record Going (s : State) (old : List Slot) (t : State) (new : List Slot) (fi
   pub gives : Gives told events
   pub calls : Calls s told t
   pub slots : new ≡ laid events old
+  pub inside : (size : ℕ) → BodyInside size s.body → EventsInside size events × BodyInside size t.body
   pub filled_most : filled ≡ min (length events) (length old)
 
 module _ {s : State} {old : List Slot} where
   pub going_first : Going s old s old 0
-  going_first = record { told = []; events = []; gives = tt; calls = no_more; slots = refl; filled_most = omega arith }
+  going_first = record { told = []; events = []; gives = tt; calls = no_more; slots = refl; inside = λ size h. (tt, h); filled_most = omega arith }
 
   more : {t u : State} {new last : List Slot} {n k : ℕ} (e : Event) (g : Going s old t new n) → Meets (next_call true 0 t) (Ok (Some e)) u → last ≡ laid (g.events ++ (e ∷ [])) old →
       k ≡ min (length (g.events ++ (e ∷ []))) (length old) →
@@ -107,6 +129,7 @@ module _ {s : State} {old : List Slot} where
     gives = gives_more g.told g.events _ e g.gives refl refl;
     calls = then_one (next_moment t u (answer.Gave e)) g.calls (next_logged (Ok (Some e)) meets refl);
     slots = put;
+    inside = λ size h. let (all, held) = g.inside size h in let (one, then) = next_inside size t u e meets held in (inside_more size g.events e all one, then);
     filled_most = filled;
   }
 
@@ -136,6 +159,7 @@ module _ {s : State} {old : List Slot} where
     gives_none = record { next = refl; none = none };
     calls = then_one (next_moment t u a) g.calls logged;
     slots = g.slots;
+    inside = λ size h. (g.inside size h).0;
   }
 
   -- none is left

@@ -1,2 +1,4 @@
 pub mod Drawing
 pub mod Reading
+pub mod Meaning
+pub mod Inside

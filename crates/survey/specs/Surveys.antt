@@ -1,5 +1,5 @@
 -- The calls by which a table is read, and what comes of them.
-use Rattle.std.specs.Prelude.{◌≡◌, ℕ, true, false, List, [], ◌∷◌, ◌++◌, None, Ok, Err, Result}
+use Rattle.std.specs.Prelude.{◌≡◌, ℕ, ◌+◌, true, false, List, [], ◌∷◌, ◌++◌, length, None, Ok, Err, Result}
 use Rattle.read.specs.Reader.{View}
 use Rattle.format.specs.declared.refusal.Refusal.{Refusal}
 use Rattle.bunser.specs.declared.Header.{Header}
@@ -14,6 +14,7 @@ use Rattle.runs.specs.Law.{Law, Refuses}
 use Rattle.survey.specs.declared.slot.Slot.{Slot}
 use Rattle.survey.specs.declared.verdict.Verdict.{Verdict}
 use Rattle.survey.specs.Slots.{laid}
+use Rattle.survey.specs.Inside.{EventsInside, Fits, BodyInside}
 use Rattle.survey.specs.Verdicts.{acceptance, refusal_verdict}
 
 -- a reader over a table that lends its bytes, of which nothing was asked
@@ -50,13 +51,14 @@ pub record Drawn (s : State) (old : List Slot) (t : State) (new : List Slot) : T
   pub gives_none : GivesNone last
   pub calls : Calls s (told ++ (last ∷ [])) t
   pub slots : new ≡ laid events old
+  pub inside : (size : ℕ) → BodyInside size s.body → EventsInside size events
 
 -- The calls that read a PDU: open, next until it gives none, and close with the header that open answered. A refused open is the
--- only call. These events were given, and this is the last call.
+-- only call. These events were given, and this is the last call. A close that accepts leaves the reader where the declared body ends.
 pub data Reads : List Moment → List Event → Moment → Type 0 where
   not_opened : (m : Moment) → m.call ≡ call.Open → Refuses m.answer → Reads (m ∷ []) [] m
   to_the_end : (m : Moment) {h : Header} (told : List Moment) (events : List Event) (last n : Moment) → m.call ≡ call.Open → m.answer ≡ answer.Opened h → Gives told events → GivesNone last →
-      n.call ≡ call.Close (record { start = h.start; length = h.length }) → Reads (m ∷ (told ++ (last ∷ n ∷ []))) events n
+      n.call ≡ call.Close (record { start = h.start; length = h.length }) → ((k : Closed) → n.answer ≡ answer.Closed k → n.count ≡ h.start + h.length) → Reads (m ∷ (told ++ (last ∷ n ∷ []))) events n
 
 -- what a call answered: this, or this refusal
 abbrev pub Answers : Result Closed Refusal → Answer → Type 0
@@ -74,6 +76,7 @@ pub record ReadOut (s : State) (old : List Slot) (r : Result Closed Refusal) (t 
   pub count : last.count ≡ t.body.reader.count
   pub counted : last.events ≡ (tally t).0
   pub slots : new ≡ laid events old
+  pub inside : (size : ℕ) → Fits size s.body.reader → EventsInside size events
 
 -- what the last call answered, in plain numbers: accepted exactly where close accepted, and else by the refusal that it told
 abbrev pub Judged : Answer → Moment → Verdict → Type 0
@@ -90,3 +93,4 @@ pub record Surveyed (table : List ℕ) (old : List Slot) (v : Verdict) (new : Li
   pub lawful : Law true (table_view table) told
   pub judged : Judged last.answer last v
   pub slots : new ≡ laid events old
+  pub inside : EventsInside (length table) events

@@ -3,6 +3,7 @@ ghost use Rattle.std.specs.Prelude.{◌≡◌, Some, IsSome};
 ghost use Rattle.read.specs.Slice.{slice_view};
 ghost use Rattle.de.specs.Decoding.{state_of};
 ghost use Rattle.survey.specs.Surveys.{Drawn, ReadOut, Surveyed};
+ghost use Rattle.survey.specs.Tables.{Means};
 
 use super::slot::Slot;
 use super::verdict::Verdict;
@@ -56,7 +57,8 @@ fn read_out(decoder: &mut Decoder<SliceRead>, slots: &mut [Slot]) -> Result<Clos
 /// Reads the PDU at the start of the table to its end, and lays its events out in the slots, as many as fit. The slots behind
 /// them stay as they were.
 pub fn survey(table: &[u8], slots: &mut [Slot]) -> Verdict
-    ensures { Surveyed table.now slots.old result slots.new }
+    ensures reads { Surveyed table.now slots.old result slots.new }
+    ensures means { Means table.now slots.old result slots.new }
 {
     let mut decoder = Decoder::new(SliceRead::new(table));
     let outcome = read_out(&mut decoder, slots);
