@@ -1,5 +1,5 @@
 -- What a verdict says of a table, by the law of the calls.
-use Rattle.std.proofs.Common.{◌≡◌, ℕ, suc, Bool, true, false, cond, ◌==◌, ◌⊎◌, inl, inr, List, [], ◌∷◌, ◌++◌, length, refl, sym, ap, ap₂, ◌∙◌, subst, append-nil, append_assoc, arith}
+use Rattle.std.proofs.Common.{◌≡◌, ℕ, zero, suc, ◌-◌, ◌≤◌, take, drop, take-append-drop, Bool, true, false, cond, ◌==◌, ◌⊎◌, inl, inr, List, [], ◌∷◌, ◌++◌, length, refl, sym, ap, ap₂, ◌∙◌, subst, append-nil, append_assoc, arith}
 use Rattle.read.specs.declared.Taken.{Taken}
 use Rattle.read.specs.declared.Taken.TheVariants.{Lent, Copied}
 use Rattle.format.specs.declared.refusal.ReadError.{ReadError}
@@ -19,7 +19,7 @@ use Rattle.de.specs.declared.entry.Answer.{Answer}
 use Rattle.de.specs.declared.entry.Answer.TheVariants as answer
 use Rattle.de.specs.Made.{Moment}
 use Rattle.de.specs.Shown.{taken_bytes, shown}
-use Rattle.runs.specs.Law.{Phase, none_yet, running, over, phase, phase_from, phase_after, open_phase, close_phase, for_good, HandedOut, PartOf, Agrees, RefusedAgrees, Passed, opens, moves, Declared, Closes, Reads as OnWhole, HeaderAt, Law, PduStory, StoryBy}
+use Rattle.runs.specs.Law.{Phase, none_yet, running, over, phase, phase_from, phase_after, open_phase, close_phase, for_good, HandedOut, PartOf, Agrees, RefusedAgrees, Passed, opens, moves, Declared, Closes, Reads as OnWhole, Begins, from, HeaderAt, Law, PduStory, StoryBy}
 use Rattle.runs.proofs.Moments.{last_same, phase_last}
 use Rattle.survey.specs.declared.slot.Slot.{Slot}
 use Rattle.survey.specs.declared.verdict.Verdict.{Verdict}
@@ -187,6 +187,19 @@ module _ (table : List ℕ) where
 
 -- ---- a table whose PDU was opened
 
+take_less : (k n : ℕ) (xs : List ℕ) → k ≤ n → take k (take n xs) ≡ take k xs
+take_less zero n xs h = refl
+take_less (suc k) zero xs h = absurd (omega arith)
+take_less (suc k) (suc n) [] h = refl
+take_less (suc k) (suc n) (x ∷ xs) h = ap (λ l. x ∷ l) (take_less k n xs (omega arith))
+
+-- a table that holds a value declares it in the header that was read
+declared_of : {table : List ℕ} {k : List Moment} {h : Header} (m : Moment) (caps start size : ℕ) (w : Value) → Law true (table_view table) (m ∷ k) → m.call ≡ call.Open → m.answer ≡ answer.Opened h →
+    Holds table caps start size w → Declared (table_view table) h.start h.length w
+declared_of {table} {k} {h} m caps start size w law is_open opened holds =
+    let same : h ≡ record { capabilities = caps; start = start; length = size } = let again = ((law [] m k refl).opens is_open).accepts refl refl caps start size holds.header in cc in
+    subst (λ (h : Header). Declared (table_view table) h.start h.length w) (sym same) holds.body
+
 length-shows : (table : List ℕ) (gs : List GivenEvent) → length (shows table gs) ≡ length gs
 length-shows table [] = refl
 length-shows table (e ∷ gs) = ap suc (length-shows table gs)
@@ -260,6 +273,24 @@ module _ (table : List ℕ) (v : Verdict) (m : Moment) (h : Header) (t : List Mo
       let (counts, long, w, declared, all) = closing.accepted k.events k.length is in
       (w, record { header = header_there; body = declared }, sym given_at_last ∙ all)
 
+  -- the events that were given begin those of a value that the table holds
+  given_begins : (w : Value) → Declared (table_view table) h.start h.length w → Begins (shows table gs) (events w)
+  given_begins w declared =
+      subst (λ es. Begins es (events w)) given_at_last
+      (story_at_last.truthful.every w declared.formed (drop taken (take h.length input), sym declared.there ∙ sym (take-append-drop taken (take h.length input)) ∙ ap (λ l. l ++ drop taken (take h.length input)) shorter))
+    where
+      input : List ℕ
+      input = from (table_view table) h.start
+
+      taken : ℕ
+      taken = story_at_last.at - h.start
+
+      few : taken ≤ h.length
+      few = let reach = story_at_last.truthful.reach in let told = story_at_last.truthful.told_bytes in omega arith
+
+      shorter : take taken (take h.length input) ≡ take taken input
+      shorter = take_less taken h.length input few
+
   -- a table that holds a value within the limits is closed
   whole_closes : (w : Value) → Declared (table_view table) h.start h.length w → Within w lending 0 0 0 → n.answer ≡ answer.Closed (record { events = length story_at_last.es; length = h.length })
   whole_closes w declared within = closing.accepts w declared (given_at_last ∙ sym before_last ∙ all)
@@ -310,11 +341,11 @@ events_told n v j = go n.answer j
     go answer.Done j = absurd j
 
 closed_at_0 : (n : Moment) (v : Verdict) → Judged n.answer n v → v.number ≡ 0 → (k : Closed) × (n.answer ≡ answer.Closed k)
-closed_at_0 n v j zero = go n.answer refl j
+closed_at_0 n v j none = go n.answer refl j
   where
     go : (a : Answer) → n.answer ≡ a → Judged a n v → (k : Closed) × (n.answer ≡ answer.Closed k)
     go (answer.Closed k) is j = (k, is)
-    go (answer.Refused f) is j = absurd (number_some f.cause (sym (ap (λ (v : Verdict). v.number) j) ∙ zero))
+    go (answer.Refused f) is j = absurd (number_some f.cause (sym (ap (λ (v : Verdict). v.number) j) ∙ none))
     go (answer.Opened k) is j = absurd j
     go (answer.Gave e) is j = absurd j
     go (answer.Skipped k) is j = absurd j
@@ -329,7 +360,8 @@ means {table} {old} {new} {v} s = go s.reads s.lawful s.judged s.slots s.inside
       counted = events_told m v judged ∙ (subst (λ p. StoryBy p true (table_view table) [] m []) (ap (λ c. phase_after none_yet c m.answer) is_open ∙ ap (open_phase none_yet) refused) (law [] m [] refl).story).no_events;
       slots = slots;
       inside = inside;
-      accepted = λ zero. absurd (number_some f.cause (sym (ap (λ (v : Verdict). v.number) (judged_as v m refused judged)) ∙ zero));
+      accepted = λ none_refused. absurd (number_some f.cause (sym (ap (λ (v : Verdict). v.number) (judged_as v m refused judged)) ∙ none_refused));
+      begins = λ caps start size w holds. (events w, refl);
       whole = λ caps start size w holds within. let again = ((law [] m [] refl).opens is_open).accepts refl refl caps start size holds.header in absurd (cc);
     }
     go (to_the_end m {h} t gs last n is_open opened gives none close ends) law judged slots inside = record {
@@ -337,12 +369,12 @@ means {table} {old} {new} {v} s = go s.reads s.lawful s.judged s.slots s.inside
       counted = events_told n v judged ∙ behind_close table v m h t gs last n law is_open opened gives none close judged;
       slots = slots;
       inside = inside;
-      accepted = λ zero.
-          let (k, is) = closed_at_0 n v judged zero in
+      accepted = λ none_refused.
+          let (k, is) = closed_at_0 n v judged none_refused in
           let (w, holds, told) = holds_value table v m h t gs last n law is_open opened gives none close judged k is in
           record { caps = h.capabilities; start = h.start; size = h.length; value = w; holds = holds; told = told; taken = ap (λ (v : Verdict). v.taken) (judged_as v n is judged) ∙ ends k is };
+      begins = λ caps start size w holds. given_begins table v m h t gs last n law is_open opened gives none close judged w (declared_of m caps start size w law is_open opened holds);
       whole = λ caps start size w holds within.
-          let same : h ≡ record { capabilities = caps; start = start; length = size } = let again = ((law [] m (t ++ (last ∷ n ∷ [])) refl).opens is_open).accepts refl refl caps start size holds.header in cc in
-          let declared = subst (λ (h : Header). Declared (table_view table) h.start h.length w) (sym same) holds.body in
+          let declared = declared_of m caps start size w law is_open opened holds in
           ap (λ (v : Verdict). v.number) (judged_as v n (whole_closes table v m h t gs last n law is_open opened gives none close judged w declared within) judged);
     }

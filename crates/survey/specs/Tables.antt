@@ -4,7 +4,7 @@ use Rattle.values.specs.Values.{Value, Event, events}
 use Rattle.values.specs.Limits.{Within, lending}
 use Rattle.de.specs.declared.event.Event.{Event as GivenEvent}
 use Rattle.de.specs.Shown.{shown}
-use Rattle.runs.specs.Law.{HeaderAt, Declared}
+use Rattle.runs.specs.Law.{Begins, HeaderAt, Declared}
 use Rattle.survey.specs.declared.slot.Slot.{Slot}
 use Rattle.survey.specs.declared.verdict.Verdict.{Verdict}
 use Rattle.survey.specs.Slots.{laid}
@@ -40,5 +40,7 @@ pub record Means (table : List ℕ) (old : List Slot) (v : Verdict) (new : List 
   pub inside : EventsInside (length table) given
   -- an accepted table holds a value, and those are its events
   pub accepted : v.number ≡ 0 → Accepted table v given
+  -- of a table that holds a value, within the limits or not, the events begin that value's
+  pub begins : (caps start size : ℕ) (w : Value) → Holds table caps start size w → Begins (shows table given) (events w)
   -- a table that holds a value within the limits is accepted
   pub whole : (caps start size : ℕ) (w : Value) → Holds table caps start size w → Within w lending 0 0 0 → v.number ≡ 0

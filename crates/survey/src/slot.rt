@@ -1,6 +1,6 @@
 //! An event in plain numbers, for callers that know no enum of Rattle.
 ghost use Rattle.std.specs.Prelude.{◌≡◌};
-ghost use Rattle.survey.specs.Slots.{bits_of, place_of, slot_of};
+ghost use Rattle.survey.specs.Slots.{bits_of, place_of, bare, spanned, slot_of};
 
 use bunser::text::Span;
 use de::event::Event;
@@ -46,7 +46,7 @@ fn place(taken: Taken) -> usize
 impl Slot {
     // An event of this kind that is only its kind.
     fn bare(kind: u32) -> Slot
-        ensures { result ≡ record { kind = kind; width = 0; value = 0; place = 0; length = 0 } }
+        ensures { result ≡ bare kind }
     {
         Slot {
             kind,
@@ -59,7 +59,7 @@ impl Slot {
 
     // An event of this kind whose bytes lie here.
     fn spanned(kind: u32, span: Span) -> Slot
-        ensures { result ≡ record { kind = kind; width = 0; value = 0; place = place_of span.taken; length = span.len } }
+        ensures { result ≡ spanned kind span }
     {
         Slot {
             kind,
