@@ -33,27 +33,27 @@ impl From<FromHexError> for LineError {
 pub struct Fields<'a>(Split<'a, char>);
 
 impl<'a> Fields<'a> {
-    pub fn new(line: &'a str) -> Fields<'a> {
+    pub(crate) fn new(line: &'a str) -> Fields<'a> {
         Fields(line.split(' '))
     }
 
-    pub fn word(&mut self) -> Result<&'a str, LineError> {
+    pub(crate) fn word(&mut self) -> Result<&'a str, LineError> {
         self.0.next().ok_or(LineError::Unknown)
     }
 
     /// A number without a sign.
-    pub fn number(&mut self) -> Result<usize, LineError> {
+    pub(crate) fn number(&mut self) -> Result<usize, LineError> {
         number(self.word()?)
     }
 
     /// The code of a fault, or 0 for a clean end.
-    pub fn ending(&mut self) -> Result<Option<SourceFault>, LineError> {
+    pub(crate) fn ending(&mut self) -> Result<Option<SourceFault>, LineError> {
         let code = u16::try_from(self.number()?).map_err(|_| LineError::Unknown)?;
         Ok(SourceFault::new(code))
     }
 
     /// Bytes in hexadecimal digits, or `-` for none.
-    pub fn bytes(&mut self, alloc: Global) -> Result<Vec<u8>, LineError> {
+    pub(crate) fn bytes(&mut self, alloc: Global) -> Result<Vec<u8>, LineError> {
         match self.word()? {
             "-" => Ok(Vec::new(alloc)),
             "" => Err(LineError::Unknown),
@@ -62,7 +62,7 @@ impl<'a> Fields<'a> {
     }
 
     /// No field is left.
-    pub fn end(&mut self) -> Result<(), LineError> {
+    pub(crate) fn end(&mut self) -> Result<(), LineError> {
         match self.0.next() {
             None => Ok(()),
             Some(_) => Err(LineError::Unknown),
@@ -71,7 +71,7 @@ impl<'a> Fields<'a> {
 }
 
 /// The number that a field says without a sign.
-pub fn number(word: &str) -> Result<usize, LineError> {
+pub(crate) fn number(word: &str) -> Result<usize, LineError> {
     if word.starts_with('+') {
         return Err(LineError::Unknown);
     }

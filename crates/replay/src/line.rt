@@ -56,7 +56,7 @@ pub enum Line {
 }
 
 impl Line {
-    pub fn parse(text: &str) -> Result<Line, LineError> {
+    pub(crate) fn parse(text: &str) -> Result<Line, LineError> {
         let mut fields = Fields::new(text);
         let line = match fields.word()? {
             "end" => Line::End,

@@ -21,7 +21,7 @@ impl Pieces {
         })
     }
 
-    pub fn source(&self) -> PieceSource<'_> {
+    pub(crate) fn source(&self) -> PieceSource<'_> {
         PieceSource::new(self.bytes.as_slice(), self.most, self.ending)
     }
 }
@@ -37,7 +37,7 @@ pub enum Reader {
 }
 
 impl Reader {
-    pub fn parse(alloc: Global, text: &str) -> Result<Reader, LineError> {
+    pub(crate) fn parse(alloc: Global, text: &str) -> Result<Reader, LineError> {
         let mut fields = Fields::new(text);
         let reader = match fields.word()? {
             "slice" => Reader::Slice(fields.bytes(alloc)?),

@@ -45,7 +45,7 @@ fn answer<R: DeRead + Drop>(
 }
 
 impl<B: BufRead + Drop> Scripts<B> {
-    pub fn new(lines: Lines<B>) -> Scripts<B> {
+    pub(crate) fn new(lines: Lines<B>) -> Scripts<B> {
         Scripts { lines }
     }
 
@@ -109,7 +109,7 @@ impl<B: BufRead + Drop> Scripts<B> {
     }
 
     /// Plays every script.
-    pub fn play(&mut self, rt: &(impl Print + AllocGlobal)) -> Result<()> {
+    pub(crate) fn play(&mut self, rt: &(impl Print + AllocGlobal)) -> Result<()> {
         for _ in 0..u64::MAX {
             let Some(line) = self.lines.next() else {
                 break;

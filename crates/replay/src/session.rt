@@ -29,7 +29,7 @@ pub struct Session<'i, R: DeRead> {
 }
 
 impl<'i, R: DeRead + Drop> Session<'i, R> {
-    pub fn new(alloc: Global, reader: R, input: &'i [u8]) -> Session<'i, R> {
+    pub(crate) fn new(alloc: Global, reader: R, input: &'i [u8]) -> Session<'i, R> {
         Session {
             decoder: Decoder::new(reader),
             input,
@@ -55,7 +55,7 @@ impl<'i, R: DeRead + Drop> Session<'i, R> {
         }
     }
 
-    pub fn open(&mut self) -> Result<Answer<'static>, AllocError> {
+    pub(crate) fn open(&mut self) -> Result<Answer<'static>, AllocError> {
         match self.decoder.open() {
             Ok(info) => {
                 let header = info.header();
@@ -105,13 +105,13 @@ impl<'i, R: DeRead + Drop> Session<'i, R> {
     }
 
     /// Calls `next` with a text buffer of so many bytes.
-    pub fn next(&mut self, rt: &(impl Print + AllocGlobal), room: usize) -> io::Result<()> {
+    pub(crate) fn next(&mut self, rt: &(impl Print + AllocGlobal), room: usize) -> io::Result<()> {
         let mut text = vec![in rt.alloc(); BLANK; room]?;
         let step = self.decoder.next(&mut text);
         self.print_step(rt, step, &text)
     }
 
-    pub fn skip(&mut self) -> Answer<'static> {
+    pub(crate) fn skip(&mut self) -> Answer<'static> {
         match self.decoder.skip() {
             Ok(passed) => Answer::Skipped(passed),
             Err(_) => Answer::Refused(self.told()),
@@ -134,7 +134,7 @@ impl<'i, R: DeRead + Drop> Session<'i, R> {
         }
     }
 
-    pub fn close(&mut self, token: Token) -> Answer<'static> {
+    pub(crate) fn close(&mut self, token: Token) -> Answer<'static> {
         let Some(info) = self.take(token) else {
             return Answer::NoToken;
         };
@@ -144,13 +144,13 @@ impl<'i, R: DeRead + Drop> Session<'i, R> {
         }
     }
 
-    pub fn asked(&self) -> Answer<'static> {
+    pub(crate) fn asked(&self) -> Answer<'static> {
         let (events, bytes) = self.decoder.tally();
         Answer::Tally(events, bytes)
     }
 
     /// Spends what was not spent.
-    pub fn finish(self) {
+    pub(crate) fn finish(self) {
         let Session {
             mut decoder,
             input: _,

@@ -141,7 +141,7 @@ pub struct Findings {
 }
 
 impl Findings {
-    pub fn of(alloc: Global, file: &[u8]) -> Result<Findings, AllocError> {
+    pub(crate) fn of(alloc: Global, file: &[u8]) -> Result<Findings, AllocError> {
         Ok(Findings {
             headers: Headers::of(file),
             lent: found(alloc, file, SliceRead::new(file), 0)?,

@@ -51,7 +51,7 @@ impl Headers {
         }
     }
 
-    pub fn agree(&self) -> bool {
+    pub(crate) fn agree(&self) -> bool {
         self.lent == self.copied
     }
 }

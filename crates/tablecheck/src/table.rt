@@ -95,7 +95,7 @@ impl Table {
     }
 
     /// The columns by their names.
-    pub fn columns(&self) -> Names<'_> {
+    pub(crate) fn columns(&self) -> Names<'_> {
         Names(self.columns.as_slice())
     }
 
