@@ -11,7 +11,7 @@ use std::collections::BTreeMap;
 use std::process::ExitCode;
 
 use classes::{Class, Standing, stand};
-use theirs::Outcome;
+use theirs::{Outcome, Why};
 
 /// What the original did, in a word or two.
 fn did(outcome: &Outcome) -> &'static str {
@@ -23,11 +23,30 @@ fn did(outcome: &Outcome) -> &'static str {
     }
 }
 
-/// An input, the smallest of its kind until now, and how many there were.
+/// The same in full, with the events that were drawn before.
+fn in_full(outcome: &Outcome, events: usize) -> String {
+    let what = match outcome {
+        Outcome::Accepted => "accepts".into(),
+        Outcome::Endless => return "has no end".into(),
+        Outcome::Panicked(words) => format!("panics: {words}"),
+        Outcome::Failed(Why::Byte { byte, .. }) => format!("fails at the byte {byte:02x}"),
+        Outcome::Failed(Why::Magic) => "fails at the magic".into(),
+        Outcome::Failed(Why::Depth) => "fails at its limit of levels".into(),
+        Outcome::Failed(Why::Length { expected, count }) => format!("fails: end {expected} expected, count {count}"),
+        Outcome::Failed(Why::Short) => "fails: the data end".into(),
+        Outcome::Failed(Why::NotText) => "fails: no UTF-8".into(),
+        Outcome::Failed(Why::Other(words)) => {
+            format!("fails: {}", words.trim_start_matches("error while deserializing BSER: "))
+        }
+    };
+    format!("{what}; events: {events}")
+}
+
+/// Inputs of one kind: how many, and the row of docs/DIFFERENCES.md about the smallest of them.
 struct Kind {
     count: usize,
     smallest: Vec<u8>,
-    words: String,
+    row: String,
 }
 
 #[derive(Default)]
@@ -87,16 +106,17 @@ impl Tally {
             Standing::Differ(class) => {
                 let kind = self.differ.entry((class, did(&theirs.outcome))).or_insert_with(|| Kind {
                     count: 0,
-                    smallest: bytes.to_vec(),
-                    words: String::new(),
+                    smallest: Vec::new(),
+                    row: String::new(),
                 });
                 kind.count += 1;
                 if kind.count == 1 || (bytes.len(), bytes) < (kind.smallest.len(), &kind.smallest[..]) {
                     kind.smallest = bytes.to_vec();
-                    kind.words = format!(
-                        "{:?} after {} events; here refusal {} at {} after {}",
-                        theirs.outcome,
-                        theirs.events.len(),
+                    kind.row = format!(
+                        "| {} | `{}` | {} | refusal {} at {}; events: {} |",
+                        class.words(),
+                        spaced(bytes),
+                        in_full(&theirs.outcome, theirs.events.len()),
                         ours.verdict.number,
                         ours.verdict.place,
                         ours.events.len()
@@ -147,8 +167,10 @@ fn main() -> ExitCode {
     println!("this reader refuses, and the original does otherwise:");
     for ((class, did), kind) in &tally.differ {
         println!("  {}; the original {did}: {}", class.words(), kind.count);
-        println!("    smallest: {}", spaced(&kind.smallest));
-        println!("    {}", kind.words);
+    }
+    println!("the smallest of each:");
+    for kind in tally.differ.values() {
+        println!("{}", kind.row);
     }
     println!("in no class: {}", tally.unknowns);
     for words in &tally.unknown {
