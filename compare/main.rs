@@ -5,6 +5,7 @@ mod classes;
 mod event;
 mod inputs;
 mod ours;
+mod sample;
 mod theirs;
 
 use std::collections::BTreeMap;
@@ -19,7 +20,7 @@ fn did(outcome: &Outcome) -> &'static str {
         Outcome::Accepted => "accepts",
         Outcome::Failed(_) => "fails",
         Outcome::Panicked(_) => "panics",
-        Outcome::Endless => "has no end",
+        Outcome::Endless => "goes on",
     }
 }
 
@@ -27,7 +28,7 @@ fn did(outcome: &Outcome) -> &'static str {
 fn in_full(outcome: &Outcome, events: usize) -> String {
     let what = match outcome {
         Outcome::Accepted => "accepts".into(),
-        Outcome::Endless => return "has no end".into(),
+        Outcome::Endless => return format!("goes on; events: more than {}", theirs::MOST_EVENTS),
         Outcome::Panicked(words) => format!("panics: {words}"),
         Outcome::Failed(Why::Byte { byte, .. }) => format!("fails at the byte {byte:02x}"),
         Outcome::Failed(Why::Magic) => "fails at the magic".into(),
@@ -136,8 +137,56 @@ impl Tally {
     }
 }
 
+/// Prints both answers to one input.
+fn show(bytes: &[u8], slots: &mut [ours::Slot]) {
+    let print = |who: &str, outcome: String, events: &[event::Event]| {
+        println!("{who}: {outcome}");
+        for event in events.iter().take(64) {
+            println!("  {}", event.printed());
+        }
+    };
+    println!("{}", spaced(bytes));
+    let theirs = theirs::from_bytes(bytes);
+    print("the original", format!("{:?}", theirs.outcome), &theirs.events);
+    let ours = ours::from_bytes(bytes, slots);
+    print("this reader", format!("{:?}", ours.verdict), &ours.events);
+}
+
 fn main() -> ExitCode {
     std::panic::set_hook(Box::new(|_| {}));
+    let arguments: Vec<String> = std::env::args().skip(1).collect();
+    match arguments.first().map(String::as_str) {
+        None => compare(),
+        Some("sample") if arguments.len() == 3 => match sample::write(&arguments[1], &arguments[2]) {
+            Ok(()) => ExitCode::SUCCESS,
+            Err(error) => {
+                eprintln!("compare: {error}");
+                ExitCode::FAILURE
+            }
+        },
+        Some("show") if arguments.len() > 1 => {
+            let digits: String = arguments[1..].concat().split_whitespace().collect();
+            let bytes: Option<Vec<u8>> =
+                (0..digits.len()).step_by(2).map(|k| u8::from_str_radix(digits.get(k..k + 2)?, 16).ok()).collect();
+            match bytes {
+                Some(bytes) => {
+                    show(&bytes, &mut vec![ours::Slot::default(); theirs::MOST_EVENTS]);
+                    ExitCode::SUCCESS
+                }
+                None => {
+                    eprintln!("compare: not hexadecimal: {digits}");
+                    ExitCode::FAILURE
+                }
+            }
+        }
+        _ => {
+            eprintln!("compare: without arguments, or `show HEX`, or `sample SCRIPTS ANSWERS`");
+            ExitCode::FAILURE
+        }
+    }
+}
+
+fn compare() -> ExitCode {
     let mut slots = vec![ours::Slot::default(); theirs::MOST_EVENTS];
     let mut tally = Tally::default();
     let mut before = 0;
