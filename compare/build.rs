@@ -1,4 +1,6 @@
 fn main() {
-    println!("cargo:rustc-link-search=native=../crates/firmware/out");
-    println!("cargo:rerun-if-changed=../crates/firmware/out/libfirmware.a");
+    for name in ["firmware", "comparing"] {
+        println!("cargo:rustc-link-search=native=../crates/{name}/out");
+        println!("cargo:rerun-if-changed=../crates/{name}/out/lib{name}.a");
+    }
 }

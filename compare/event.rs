@@ -40,6 +40,14 @@ impl Event {
         }
     }
 
+    /// The same, as a reader that copies gives it.
+    pub fn without_place(mut self) -> Event {
+        if let Event::Key(p) | Event::Bytes(p) | Event::Text(p) = &mut self {
+            p.place = None;
+        }
+        self
+    }
+
     /// As docs/REPLAY.md has it.
     pub fn printed(&self) -> String {
         let part = |word: &str, p: &Part| match p.place {

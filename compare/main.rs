@@ -12,6 +12,7 @@ use std::collections::BTreeMap;
 use std::process::ExitCode;
 
 use classes::{Class, Standing, stand};
+use event::Event;
 use theirs::{Outcome, Why};
 
 /// What the original did, in a word or two.
@@ -21,6 +22,7 @@ fn did(outcome: &Outcome) -> &'static str {
         Outcome::Failed(_) => "fails",
         Outcome::Panicked(_) => "panics",
         Outcome::Endless => "goes on",
+        Outcome::Aborted => "is aborted",
     }
 }
 
@@ -29,6 +31,7 @@ fn in_full(outcome: &Outcome, events: usize) -> String {
     let what = match outcome {
         Outcome::Accepted => "accepts".into(),
         Outcome::Endless => return format!("goes on; events: more than {}", theirs::MOST_EVENTS),
+        Outcome::Aborted => "is aborted for want of memory".into(),
         Outcome::Panicked(words) => format!("panics: {words}"),
         Outcome::Failed(Why::Byte { byte, .. }) => format!("fails at the byte {byte:02x}"),
         Outcome::Failed(Why::Magic) => "fails at the magic".into(),
@@ -52,7 +55,6 @@ struct Kind {
 
 #[derive(Default)]
 struct Tally {
-    inputs: usize,
     accepted: usize,
     refused: BTreeMap<u32, usize>,
     differ: BTreeMap<(Class, &'static str), Kind>,
@@ -96,10 +98,7 @@ fn header_len(bytes: &[u8]) -> usize {
 }
 
 impl Tally {
-    fn try_on(&mut self, bytes: &[u8], slots: &mut [ours::Slot]) {
-        self.inputs += 1;
-        let ours = ours::from_bytes(bytes, slots);
-        let theirs = theirs::from_bytes(bytes);
+    fn note(&mut self, bytes: &[u8], ours: &ours::Answer, theirs: &theirs::Answer) {
         let in_body = ours.verdict.place >= header_len(bytes);
         match stand(&ours.verdict, in_body, &ours.events, &theirs.outcome, &theirs.events) {
             Standing::BothAccept => self.accepted += 1,
@@ -133,6 +132,109 @@ impl Tally {
                     ));
                 }
             }
+        }
+    }
+
+    fn print(&self) {
+        println!("both accept, with the same events: {}", self.accepted);
+        println!("both refuse, for the same cause, after the same events:");
+        for (number, count) in &self.refused {
+            println!("  refusal {number}: {count}");
+        }
+        println!("this reader refuses, and the original does otherwise:");
+        for ((class, did), kind) in &self.differ {
+            println!("  {}; the original {did}: {}", class.words(), kind.count);
+        }
+        println!("the smallest of each:");
+        for kind in self.differ.values() {
+            println!("{}", kind.row);
+        }
+        println!("in no class: {}", self.unknowns);
+        for words in &self.unknown {
+            println!("{words}");
+        }
+    }
+}
+
+/// How many bytes each piece has at most.
+const PIECES: [usize; 4] = [1, 2, 3, 64];
+
+/// A run of the original over a reader that asks for more bytes at once is made in a process of its own.
+const MOST_AT_ONCE: usize = 1 << 20;
+
+/// How many runs are made in a process of their own, since they are slow.
+const MOST_APART: usize = 2000;
+
+const VALUES: usize = 20_000;
+const DAMAGES: usize = 40;
+
+struct Both {
+    inputs: usize,
+    slots: Vec<ours::Slot>,
+    texts: Vec<u8>,
+    slices: Tally,
+    /// Where the two readers do over pieces what they do over a slice.
+    same: usize,
+    /// Where they do not.
+    pieces: Tally,
+    apart: usize,
+    left_out: usize,
+}
+
+impl Both {
+    fn new() -> Both {
+        Both {
+            inputs: 0,
+            slots: vec![ours::Slot::default(); theirs::MOST_EVENTS],
+            texts: vec![0; ours::TEXTS],
+            slices: Tally::default(),
+            same: 0,
+            pieces: Tally::default(),
+            apart: 0,
+            left_out: 0,
+        }
+    }
+
+    /// What the original does over pieces, unless that is left out.
+    fn original(&mut self, bytes: &[u8], most: usize, over_slice: &[Event]) -> Option<theirs::Answer> {
+        let at_once = theirs::seen(bytes).most;
+        if at_once <= MOST_AT_ONCE || at_once > isize::MAX as usize {
+            return Some(theirs::from_pieces(bytes, most));
+        }
+        if self.apart == MOST_APART {
+            self.left_out += 1;
+            return None;
+        }
+        self.apart += 1;
+        Some(theirs::Answer { outcome: theirs::from_pieces_apart(bytes, most), events: over_slice.to_vec() })
+    }
+
+    fn try_on(&mut self, bytes: &[u8]) {
+        self.inputs += 1;
+        let mut ours = ours::from_bytes(bytes, &mut self.slots);
+        let mut theirs = theirs::from_bytes(bytes);
+        self.slices.note(bytes, &ours, &theirs);
+        ours.events = ours.events.into_iter().map(Event::without_place).collect();
+        theirs.events = theirs.events.into_iter().map(Event::without_place).collect();
+        for most in PIECES {
+            let Some(their_pieces) = self.original(bytes, most, &theirs.events) else {
+                continue;
+            };
+            let mut our_pieces = ours::from_pieces(bytes, most, &mut self.slots, &mut self.texts);
+            let numbers = |v: &ours::Verdict| (v.number, v.place);
+            if numbers(&our_pieces.verdict) == numbers(&ours.verdict) {
+                our_pieces.verdict.first = ours.verdict.first;
+                our_pieces.verdict.second = ours.verdict.second;
+                let alike = match (&theirs.outcome, &their_pieces.outcome) {
+                    (Outcome::Panicked(_), Outcome::Panicked(_)) => true,
+                    (a, b) => a == b,
+                };
+                if our_pieces.events == ours.events && their_pieces.events == theirs.events && alike {
+                    self.same += 1;
+                    continue;
+                }
+            }
+            self.pieces.note(bytes, &our_pieces, &their_pieces);
         }
     }
 }
@@ -187,43 +289,33 @@ fn main() -> ExitCode {
 }
 
 fn compare() -> ExitCode {
-    let mut slots = vec![ours::Slot::default(); theirs::MOST_EVENTS];
-    let mut tally = Tally::default();
+    let mut both = Both::new();
     let mut before = 0;
-    let mut group = |name: &str, tally: &mut Tally| {
-        println!("{name}: {} inputs", tally.inputs - before);
-        before = tally.inputs;
+    let mut group = |name: &str, both: &Both| {
+        println!("{name}: {} inputs", both.inputs - before);
+        before = both.inputs;
     };
 
-    inputs::headers(|p| tally.try_on(p, &mut slots));
-    group("headers", &mut tally);
-    inputs::small_bodies(4, |p| tally.try_on(p, &mut slots));
-    group("every body of up to 4 bytes", &mut tally);
-    inputs::small_cuts(3, |p| tally.try_on(p, &mut slots));
-    group("cuts of every body of up to 3 bytes", &mut tally);
-    inputs::edges(|p| tally.try_on(p, &mut slots));
-    group("edges of the limits", &mut tally);
+    inputs::headers(|p| both.try_on(p));
+    group("headers", &both);
+    inputs::small_bodies(4, |p| both.try_on(p));
+    group("every body of up to 4 bytes", &both);
+    inputs::small_cuts(3, |p| both.try_on(p));
+    group("cuts of every body of up to 3 bytes", &both);
+    inputs::edges(|p| both.try_on(p));
+    group("edges of the limits", &both);
     let mut chance = inputs::Chance::new(20200229);
-    inputs::generated(&mut chance, 20_000, 40, |p| tally.try_on(p, &mut slots));
-    group("20000 generated values, whole, cut and damaged", &mut tally);
+    inputs::generated(&mut chance, VALUES, DAMAGES, |p| both.try_on(p));
+    group(&format!("{VALUES} generated values, whole, cut and damaged"), &both);
+    println!("{} inputs in all", both.inputs);
 
-    println!("{} inputs in all", tally.inputs);
-    println!("both accept, with the same events: {}", tally.accepted);
-    println!("both refuse, for the same cause, after the same events:");
-    for (number, count) in &tally.refused {
-        println!("  refusal {number}: {count}");
-    }
-    println!("this reader refuses, and the original does otherwise:");
-    for ((class, did), kind) in &tally.differ {
-        println!("  {}; the original {did}: {}", class.words(), kind.count);
-    }
-    println!("the smallest of each:");
-    for kind in tally.differ.values() {
-        println!("{}", kind.row);
-    }
-    println!("in no class: {}", tally.unknowns);
-    for words in &tally.unknown {
-        println!("{words}");
-    }
-    if tally.unknowns == 0 { ExitCode::SUCCESS } else { ExitCode::FAILURE }
+    println!("over a slice:");
+    both.slices.print();
+    println!("over a reader, in pieces of 1, 2, 3 and 64 bytes:");
+    println!("both do what they do over a slice: {}", both.same);
+    println!("runs of the original that want much memory: {} made, {} left out", both.apart, both.left_out);
+    println!("the others:");
+    both.pieces.print();
+    let unknowns = both.slices.unknowns + both.pieces.unknowns;
+    if unknowns == 0 { ExitCode::SUCCESS } else { ExitCode::FAILURE }
 }

@@ -1,4 +1,5 @@
-//! The reader of this repository, through the static library that crates/firmware makes.
+//! The reader of this repository: over a slice through the static library that crates/firmware makes, and over pieces, which it
+//! copies, through that of crates/comparing.
 
 use std::mem::size_of;
 
@@ -33,6 +34,23 @@ unsafe extern "C" {
     fn yieldnext_events(table: *const u8, length: usize, slots: *mut Slot, count: usize) -> Verdict;
 }
 
+/// What came of a PDU in pieces.
+#[repr(C)]
+#[derive(Clone, Copy, Debug, PartialEq, Eq)]
+struct Outcome {
+    number: usize,
+    place: usize,
+    events: usize,
+    taken: usize,
+}
+
+#[link(name = "comparing", kind = "static")]
+unsafe extern "C" {
+    fn comparing_pieces(
+        bytes: *const u8, length: usize, most: usize, slots: *mut Slot, count: usize, texts: *mut u8, room: usize,
+    ) -> Outcome;
+}
+
 pub struct Answer {
     pub verdict: Verdict,
     pub events: Vec<Event>,
@@ -64,4 +82,29 @@ pub fn from_bytes(bytes: &[u8], slots: &mut [Slot]) -> Answer {
     let verdict = unsafe { yieldnext_events(bytes.as_ptr(), bytes.len(), slots.as_mut_ptr(), slots.len()) };
     assert!(verdict.events <= slots.len(), "too few slots");
     Answer { verdict, events: slots[..verdict.events].iter().map(|s| event(bytes, s)).collect() }
+}
+
+/// How many bytes the texts of a PDU have room for, all together.
+pub const TEXTS: usize = 1 << 16;
+
+/// The same over a reader that copies; it does not tell what a refusal keeps, nor its layer.
+pub fn from_pieces(bytes: &[u8], most: usize, slots: &mut [Slot], texts: &mut [u8]) -> Answer {
+    // SAFETY: as above, and of the texts as of the slots.
+    let came = unsafe {
+        comparing_pieces(
+            bytes.as_ptr(), bytes.len(), most, slots.as_mut_ptr(), slots.len(), texts.as_mut_ptr(), texts.len(),
+        )
+    };
+    assert!(came.events <= slots.len(), "too few slots");
+    let verdict = Verdict {
+        number: came.number as u32,
+        layer: 0,
+        place: came.place,
+        first: 0,
+        second: 0,
+        events: came.events,
+        taken: came.taken,
+    };
+    let events = slots[..came.events].iter().map(|s| event(texts, s).without_place()).collect();
+    Answer { verdict, events }
 }
