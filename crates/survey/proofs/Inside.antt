@@ -91,15 +91,15 @@ module _ (size : ℕ) where
   text_behind_inside text.Key s h = keyed_inside s h
 
   column_inside : (s : List (Open Column)) → OpensInside size s → ColumnInside size (column s)
-  column_inside [] h = tt
-  column_inside (start ∷ s) h = tt
-  column_inside (items n ∷ s) h = tt
-  column_inside (pairs n ∷ s) h = tt
-  column_inside (field n ∷ s) h = tt
-  column_inside (rows ks n ∷ s) h = tt
-  column_inside (row [] ks n ∷ s) h = tt
+  column_inside [] h = omega arith
+  column_inside (start ∷ s) h = omega arith
+  column_inside (items n ∷ s) h = omega arith
+  column_inside (pairs n ∷ s) h = omega arith
+  column_inside (field n ∷ s) h = omega arith
+  column_inside (rows ks n ∷ s) h = omega arith
+  column_inside (row [] ks n ∷ s) h = omega arith
   column_inside (row (k ∷ l) ks n ∷ s) ((here, others), keys, h) = here
-  column_inside (cell l ks n ∷ s) h = tt
+  column_inside (cell l ks n ∷ s) h = omega arith
 
   turned_inside : (s : List (Open Column)) → OpensInside size s → OpensInside size (row_turned s)
   turned_inside [] h = tt
@@ -334,7 +334,7 @@ module _ (size : ℕ) where
       where
         by : (k : Column) → ColumnInside size k → StepInside (column_by k space b)
         by (lent p n) h = (h, (fits, turned_inside b.opens opens))
-        by (copied bs) h = step_if _ _ (cramped space (length bs)) tt (tt, (fits, turned_inside b.opens opens))
+        by (copied bs) h = step_if _ _ (cramped space (length bs)) tt (h, (fits, turned_inside b.opens opens))
 
     finished_inside : {c : Coming} → Comes c → StepInside (finishing true space c)
     finished_inside (inside {a} {b} h g) = go a h

@@ -9,10 +9,10 @@ use Rattle.de.specs.declared.event.Event.TheVariants as event
 use Rattle.de.specs.Steps.{Body}
 
 module _ (size : ℕ) where
-  -- bytes that were lent
+  -- bytes that were lent, and as many as were copied
   abbrev pub TakenInside : Taken → ℕ → Type 0
   TakenInside (Lent p) n = p + n ≤ size
-  TakenInside Copied n = Unit {0}
+  TakenInside Copied n = n ≤ size
 
   abbrev pub EventInside : Event → Type 0
   EventInside (event.Key s) = TakenInside s.taken s.len
@@ -29,7 +29,7 @@ module _ (size : ℕ) where
 
   abbrev pub ColumnInside : Column → Type 0
   ColumnInside (lent p n) = p + n ≤ size
-  ColumnInside (copied bs) = Unit {0}
+  ColumnInside (copied bs) = length bs ≤ size
 
   abbrev pub ColumnsInside : List Column → Type 0
   ColumnsInside [] = Unit {0}
