@@ -62,22 +62,22 @@ struct Tally {
     unknowns: usize,
 }
 
-/// The bytes, and what stands there more than eight times as `[02 03 00] x257`.
+/// The bytes, and what stands there more than eight times in a row as `[02 03 00] x257`.
 fn spaced(bytes: &[u8]) -> String {
-    let plain = |bytes: &[u8]| bytes.iter().map(|b| format!("{b:02x}")).collect::<Vec<_>>().join(" ");
+    const LONGEST: usize = 160;
     let mut words = Vec::new();
     let mut rest = bytes;
     while !rest.is_empty() {
-        let repeated = (1..=9.min(rest.len()))
+        let repeated = (1..=LONGEST.min(rest.len()))
             .map(|len| (len, rest.chunks_exact(len).take_while(|c| *c == &rest[..len]).count()))
             .find(|(_, times)| *times > 8);
         let taken = match repeated {
             Some((len, times)) => {
-                words.push(format!("[{}] x{times}", plain(&rest[..len])));
+                words.push(format!("[{}] x{times}", spaced(&rest[..len])));
                 len * times
             }
             None => {
-                words.push(plain(&rest[..1]));
+                words.push(format!("{:02x}", rest[0]));
                 1
             }
         };
@@ -159,11 +159,8 @@ impl Tally {
 /// How many bytes each piece has at most.
 const PIECES: [usize; 4] = [1, 2, 3, 64];
 
-/// A run of the original over a reader that asks for more bytes at once is made in a process of its own.
+/// The original over a reader makes room for all that it asks for at once, and fills it. Up to this much it is run as it is.
 const MOST_AT_ONCE: usize = 1 << 20;
-
-/// How many runs are made in a process of their own, since they are slow.
-const MOST_APART: usize = 2000;
 
 const VALUES: usize = 20_000;
 const DAMAGES: usize = 40;
@@ -201,7 +198,8 @@ impl Both {
         if at_once <= MOST_AT_ONCE || at_once > isize::MAX as usize {
             return Some(theirs::from_pieces(bytes, most));
         }
-        if self.apart == MOST_APART {
+        // Room that there is takes long to fill, and whether there is room for more does not depend on the pieces.
+        if at_once < theirs::MEMORY || most != 64 {
             self.left_out += 1;
             return None;
         }
@@ -313,7 +311,7 @@ fn compare() -> ExitCode {
     both.slices.print();
     println!("over a reader, in pieces of 1, 2, 3 and 64 bytes:");
     println!("both do what they do over a slice: {}", both.same);
-    println!("runs of the original that want much memory: {} made, {} left out", both.apart, both.left_out);
+    println!("runs of the original that ask for more than 2^20 bytes at once: {} made, {} left out", both.apart, both.left_out);
     println!("the others:");
     both.pieces.print();
     let unknowns = both.slices.unknowns + both.pieces.unknowns;
