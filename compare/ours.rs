@@ -47,7 +47,14 @@ struct Outcome {
 #[link(name = "comparing", kind = "static")]
 unsafe extern "C" {
     fn comparing_pieces(
-        bytes: *const u8, length: usize, most: usize, slots: *mut Slot, count: usize, texts: *mut u8, room: usize,
+        bytes: *const u8,
+        length: usize,
+        most: usize,
+        ending: u16,
+        slots: *mut Slot,
+        count: usize,
+        texts: *mut u8,
+        room: usize,
     ) -> Outcome;
 }
 
@@ -88,11 +95,18 @@ pub fn from_bytes(bytes: &[u8], slots: &mut [Slot]) -> Answer {
 pub const TEXTS: usize = 1 << 16;
 
 /// The same over a reader that copies; it does not tell what a refusal keeps, nor its layer.
-pub fn from_pieces(bytes: &[u8], most: usize, slots: &mut [Slot], texts: &mut [u8]) -> Answer {
+pub fn from_pieces(bytes: &[u8], most: usize, ending: u16, slots: &mut [Slot], texts: &mut [u8]) -> Answer {
     // SAFETY: as above, and of the texts as of the slots.
     let came = unsafe {
         comparing_pieces(
-            bytes.as_ptr(), bytes.len(), most, slots.as_mut_ptr(), slots.len(), texts.as_mut_ptr(), texts.len(),
+            bytes.as_ptr(),
+            bytes.len(),
+            most,
+            ending,
+            slots.as_mut_ptr(),
+            slots.len(),
+            texts.as_mut_ptr(),
+            texts.len(),
         )
     };
     assert!(came.events <= slots.len(), "too few slots");

@@ -58,7 +58,7 @@ fn ending(answer: &Answer, length: i64, count: usize) -> Vec<(&'static str, Stri
 /// Writes down the calls on one PDU, whose header is whole, and declares this length.
 fn record(scripts: &mut Scripts, bytes: &[u8], length: i64, pieces: Option<usize>) {
     let theirs = match pieces {
-        Some(most) => theirs::from_pieces(bytes, most),
+        Some(most) => theirs::from_pieces(bytes, most, false),
         None => theirs::from_bytes(bytes),
     };
     let ours = ours::from_bytes(bytes, &mut vec![ours::Slot::default(); theirs::MOST_EVENTS]);

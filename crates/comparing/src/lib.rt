@@ -4,6 +4,7 @@
 use de::decoder::Decoder;
 use read::DeRead;
 use read::io::IoRead;
+use source::SourceFault;
 use source::piece::PieceSource;
 use survey::slot::Slot;
 
@@ -51,15 +52,18 @@ fn told(decoder: &Decoder<IoRead<PieceSource<'_>>>) -> (usize, usize) {
     }
 }
 
-/// Reads the PDU at the start of these bytes, of which the source gives at most `most` at once.
+/// Reads the PDU at the start of these bytes, of which the source gives at most `most` at once. Then it has the fault with the
+/// code `ending`, or ends clean where that is 0.
 #[unsafe(no_mangle)]
 pub extern "C" fn comparing_pieces(
     bytes: &[u8],
     most: usize,
+    ending: u16,
     slots: &mut [Slot],
     texts: &mut [u8],
 ) -> Outcome {
-    let mut decoder = Decoder::new(IoRead::new(PieceSource::new(bytes, most, None)));
+    let source = PieceSource::new(bytes, most, SourceFault::new(ending));
+    let mut decoder = Decoder::new(IoRead::new(source));
     let (number, place) = match decoder.open() {
         Ok(info) => {
             draw(&mut decoder, slots, texts);
