@@ -1,4 +1,4 @@
 fn main() {
-    println!("cargo:rustc-link-search=native=../crates/timing/out");
-    println!("cargo:rerun-if-changed=../crates/timing/out/libtiming.a");
+    println!("cargo:rustc-link-search=native=out");
+    println!("cargo:rerun-if-changed=out/libtiming.a");
 }

@@ -1,4 +1,4 @@
-//! The reader of this repository, through the static library that crates/timing makes. Each answers how many events have passed
+//! The reader of this repository, through the static library that is made of timed.txt. Each answers how many events have passed
 //! where the table is accepted, and else 0.
 
 #[link(name = "timing", kind = "static")]

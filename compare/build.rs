@@ -1,6 +1,6 @@
 fn main() {
-    for name in ["firmware", "comparing"] {
-        println!("cargo:rustc-link-search=native=../crates/{name}/out");
-        println!("cargo:rerun-if-changed=../crates/{name}/out/lib{name}.a");
+    for (folder, name) in [("../crates/firmware/out", "firmware"), ("out", "comparing")] {
+        println!("cargo:rustc-link-search=native={folder}");
+        println!("cargo:rerun-if-changed={folder}/lib{name}.a");
     }
 }

@@ -1,5 +1,5 @@
 //! The reader of this repository: over a slice through the static library that crates/firmware makes, and over pieces, which it
-//! copies, through that of crates/comparing.
+//! copies, through the one that is made of pieces.txt.
 
 use std::mem::size_of;
 
