@@ -272,6 +272,11 @@ abbrev pub Finds : Coming → Result Ahead Refusal → Body → Type 0
 Finds (comes a b) r c = (r ≡ Ok a) × (c ≡ b)
 Finds (halts f b) r c = (r ≡ Err f) × Apart f b c
 
+-- what is found, of which a part is handed out
+abbrev pub found : {A : Type 0} → (A → Ahead) → Result A Refusal → Result Ahead Refusal
+found f (Ok a) = Ok (f a)
+found f (Err e) = Err e
+
 abbrev pub Says : Out → Result (Option Event) Refusal → Body → Type 0
 Says (gives e b x) r c = (r ≡ Ok e) × (c ≡ b)
 Says (stops f b x) r c = (r ≡ Err f) × Apart f b c

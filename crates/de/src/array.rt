@@ -1,8 +1,10 @@
 //! Arrays and objects, behind a tag that was shown.
 ghost use Rattle.std.specs.Prelude.{◌≡◌};
 ghost use Rattle.room.specs.Open.{items, pairs, ended, row_turned};
-ghost use Rattle.de.specs.Steps.{array_comes, object_comes, key_comes, turns, refuse, Finds};
+ghost use Rattle.de.specs.Steps.{array_comes, object_comes, key_comes, turns, refuse, found, Finds};
 ghost use Rattle.de.specs.Held.{body_of};
+ghost use Rattle.de.specs.declared.event.Ahead.TheVariants.{Passed, Text};
+ghost use Rattle.de.specs.declared.event.Event.TheVariants.{ArrayBegin, MapBegin};
 ghost use Rattle.format.specs.declared.refusal.Cause.TheVariants.{Depth};
 ghost use Rattle.std.specs.Prelude.{Ok};
 
@@ -24,8 +26,8 @@ impl<R: DeRead> Events<R> {
     }
 
     #[tactic(auto, using(crate::proofs::Finding::then_finds, crate::proofs::Finding::stop_finds), unfolding(crate::specs::Steps::array_comes))]
-    pub(crate) fn array(&mut self) -> Result<Ahead, Refusal>
-        ensures { Finds (array_comes R.DeRead.lends (body_of R.DeRead.view self.old)) result (body_of R.DeRead.view self.new) }
+    pub(crate) fn array(&mut self) -> Result<(), Refusal>
+        ensures { Finds (array_comes R.DeRead.lends (body_of R.DeRead.view self.old)) (found (λ _. Passed ArrayBegin) result) (body_of R.DeRead.view self.new) }
     {
         if !self.opens.is_free() {
             return Err(self.too_deep());
@@ -34,12 +36,12 @@ impl<R: DeRead> Events<R> {
         let n = self.bunser.placed_count()?;
         self.opens.items(n);
         self.pass();
-        Ok(Ahead::Passed(Event::ArrayBegin))
+        Ok(())
     }
 
     #[tactic(auto, using(crate::proofs::Finding::then_finds, crate::proofs::Finding::stop_finds), unfolding(crate::specs::Steps::object_comes))]
-    pub(crate) fn object(&mut self) -> Result<Ahead, Refusal>
-        ensures { Finds (object_comes R.DeRead.lends (body_of R.DeRead.view self.old)) result (body_of R.DeRead.view self.new) }
+    pub(crate) fn object(&mut self) -> Result<(), Refusal>
+        ensures { Finds (object_comes R.DeRead.lends (body_of R.DeRead.view self.old)) (found (λ _. Passed MapBegin) result) (body_of R.DeRead.view self.new) }
     {
         if !self.opens.is_free() {
             return Err(self.too_deep());
@@ -48,13 +50,13 @@ impl<R: DeRead> Events<R> {
         let n = self.bunser.placed_count()?;
         self.opens.pairs(n);
         self.pass();
-        Ok(Ahead::Passed(Event::MapBegin))
+        Ok(())
     }
 
     // The key of a pair, whose text is awaited once its length is known.
     #[tactic(auto, using(crate::proofs::Finding::then_finds, crate::proofs::Finding::stop_finds), unfolding(crate::specs::Steps::key_comes))]
-    pub(crate) fn map_key(&mut self) -> Result<Ahead, Refusal>
-        ensures { Finds (key_comes R.DeRead.lends (body_of R.DeRead.view self.old)) result (body_of R.DeRead.view self.new) }
+    pub(crate) fn map_key(&mut self) -> Result<Unread, Refusal>
+        ensures { Finds (key_comes R.DeRead.lends (body_of R.DeRead.view self.old)) (found Text result) (body_of R.DeRead.view self.new) }
     {
         let len = self.bunser.key_len(Kind::MapKey)?;
         Ok(self.wait(Unread {

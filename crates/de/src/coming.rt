@@ -12,24 +12,50 @@ use format::tags::Tag;
 use read::DeRead;
 use room::due::Due;
 
+// `KEEPS` changes nothing of what comes. With it `next` and `skip` have a copy each, which the compiler lays out in line
+// where it is called; one copy for both took twice the time.
 impl<R: DeRead> Events<R> {
     // An item by its tag, which was shown: a gap may stand where a cell is due.
     #[tactic(auto, unfolding(crate::specs::Steps::tagged))]
-    fn tagged(&mut self, due: Due, tag: u8) -> Result<Ahead, Refusal>
+    fn tagged<const KEEPS: bool>(&mut self, due: Due, tag: u8) -> Result<Ahead, Refusal>
         ensures { Finds (tagged R.DeRead.lends (may_gap due) tag (body_of R.DeRead.view self.old)) result (body_of R.DeRead.view self.new) }
     {
         match (due, Tag::try_from(tag)) {
-            (_, Ok(Tag::Array)) => self.array(),
-            (_, Ok(Tag::Object)) => self.object(),
-            (_, Ok(Tag::Template)) => self.template(),
-            (_, Ok(Tag::ByteString)) => self.text(TextKind::Bytes),
-            (_, Ok(Tag::Utf8String)) => self.text(TextKind::Text),
-            (_, Ok(Tag::Int(width))) => self.int(width),
-            (_, Ok(Tag::Real)) => self.real(),
-            (_, Ok(Tag::True)) => Ok(self.only_tag(Event::True)),
-            (_, Ok(Tag::False)) => Ok(self.only_tag(Event::False)),
-            (_, Ok(Tag::Null)) => Ok(self.only_tag(Event::Null)),
-            (Due::Cell, Ok(Tag::Skip)) => Ok(self.only_tag(Event::Absent)),
+            (_, Ok(Tag::Array)) => {
+                self.array()?;
+                Ok(Ahead::Passed(Event::ArrayBegin))
+            }
+            (_, Ok(Tag::Object)) => {
+                self.object()?;
+                Ok(Ahead::Passed(Event::MapBegin))
+            }
+            (_, Ok(Tag::Template)) => {
+                self.template()?;
+                Ok(Ahead::Passed(Event::ArrayBegin))
+            }
+            (_, Ok(Tag::ByteString)) => Ok(Ahead::Text(self.text::<KEEPS>(TextKind::Bytes)?)),
+            (_, Ok(Tag::Utf8String)) => Ok(Ahead::Text(self.text::<KEEPS>(TextKind::Text)?)),
+            (_, Ok(Tag::Int(width))) => {
+                let value = self.int::<KEEPS>(width)?;
+                Ok(Ahead::Passed(Event::Int(width, value)))
+            }
+            (_, Ok(Tag::Real)) => Ok(Ahead::Passed(Event::Real(self.real()?))),
+            (_, Ok(Tag::True)) => {
+                self.only_tag();
+                Ok(Ahead::Passed(Event::True))
+            }
+            (_, Ok(Tag::False)) => {
+                self.only_tag();
+                Ok(Ahead::Passed(Event::False))
+            }
+            (_, Ok(Tag::Null)) => {
+                self.only_tag();
+                Ok(Ahead::Passed(Event::Null))
+            }
+            (Due::Cell, Ok(Tag::Skip)) => {
+                self.only_tag();
+                Ok(Ahead::Passed(Event::Absent))
+            }
             (_, Ok(Tag::Skip) | Err(_)) => {
                 Err(ReadError::Byte(Kind::NextItem, tag).at(self.bunser.read_count()))
             }
@@ -37,17 +63,17 @@ impl<R: DeRead> Events<R> {
     }
 
     #[tactic(auto, using(crate::proofs::Finding::then_finds, crate::proofs::Finding::stop_finds), unfolding(crate::specs::Steps::item_comes))]
-    fn item(&mut self, due: Due) -> Result<Ahead, Refusal>
+    fn item<const KEEPS: bool>(&mut self, due: Due) -> Result<Ahead, Refusal>
         ensures { Finds (item_comes R.DeRead.lends (may_gap due) (body_of R.DeRead.view self.old)) result (body_of R.DeRead.view self.new) }
     {
         let place = self.bunser.read_count();
         let tag = placed(self.bunser.peek(), place)?;
-        self.tagged(due, tag)
+        self.tagged::<KEEPS>(due, tag)
     }
 
     /// What comes next. An event that needs no text has passed then.
     #[tactic(auto, unfolding(crate::specs::Steps::coming))]
-    pub(crate) fn coming(&mut self) -> Result<Ahead, Refusal>
+    pub(crate) fn coming<const KEEPS: bool>(&mut self) -> Result<Ahead, Refusal>
         ensures { Finds (coming R.DeRead.lends (body_of R.DeRead.view self.old)) result (body_of R.DeRead.view self.new) }
     {
         if let Some(text) = self.unread {
@@ -55,9 +81,8 @@ impl<R: DeRead> Events<R> {
         }
         match self.opens.due() {
             Due::Done => Ok(Ahead::Nothing),
-            Due::Value => self.item(Due::Value),
-            Due::Cell => self.item(Due::Cell),
-            Due::MapKey => self.map_key(),
+            due @ (Due::Value | Due::Cell) => self.item::<KEEPS>(due),
+            Due::MapKey => Ok(Ahead::Text(self.map_key()?)),
             Due::RowBegin => Ok(self.turn(Event::MapBegin)),
             Due::RowKey => Ok(Ahead::Column),
             Due::RowEnd => Ok(self.turn(Event::MapEnd)),

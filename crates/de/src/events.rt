@@ -1,13 +1,11 @@
 //! The events of a body, one after the other.
 ghost use Rattle.std.specs.Prelude.{◌≡◌, ◌+◌, ◌≤◌, IfOk};
 ghost use Rattle.room.specs.Open.{start, filled, keyed, row_turned, ended};
-ghost use Rattle.de.specs.declared.event.Ahead.TheVariants.{Passed, Text};
 ghost use Rattle.de.specs.Steps.{behind, awaiting, due_comes, item_comes, coming, Finds};
 ghost use Rattle.bunser.specs.Reads.{header_read};
 ghost use Rattle.de.specs.Calls.{finished};
 ghost use Rattle.de.specs.Held.{body_of, unread_body, HeaderTold};
 
-use super::event::{Ahead, Event};
 use bunser::text::Unread;
 use bunser::{Bunser, Header};
 use format::refusal::Refusal;
@@ -42,27 +40,28 @@ impl<R: DeRead> Events<R> {
     pub(crate) fn pass(&mut self)
         ensures { body_of R.DeRead.view self.new ≡ behind (body_of R.DeRead.view self.old) (body_of R.DeRead.view self.old).reader (body_of R.DeRead.view self.old).opens }
     {
-        self.unread = None;
+        // A test and no plain write: in most places it is known that none is awaited, and then nothing is written.
+        if self.unread.is_some() {
+            self.unread = None;
+        }
         self.passed = self.passed.saturating_add(1);
     }
 
-    // A value has begun, by this event.
-    pub(crate) fn pass_value(&mut self, event: Event) -> Ahead
-        ensures gives { result ≡ Passed event }
-        ensures passes { body_of R.DeRead.view self.new ≡ behind (body_of R.DeRead.view self.old) (body_of R.DeRead.view self.old).reader (filled (body_of R.DeRead.view self.old).opens) }
+    // A value has begun.
+    pub(crate) fn pass_value(&mut self)
+        ensures { body_of R.DeRead.view self.new ≡ behind (body_of R.DeRead.view self.old) (body_of R.DeRead.view self.old).reader (filled (body_of R.DeRead.view self.old).opens) }
     {
         self.opens.fill();
         self.pass();
-        Ahead::Passed(event)
     }
 
     // A text is awaited from now on.
-    pub(crate) fn wait(&mut self, text: Unread) -> Ahead
-        ensures gives { result ≡ Text text }
+    pub(crate) fn wait(&mut self, text: Unread) -> Unread
+        ensures gives { result ≡ text }
         ensures waits { body_of R.DeRead.view self.new ≡ awaiting (body_of R.DeRead.view self.old) (body_of R.DeRead.view self.old).reader text }
     {
         self.unread = Some(text);
-        Ahead::Text(text)
+        text
     }
 
     // The header of a PDU; its one value is to come.

@@ -1,8 +1,10 @@
 //! Templates, behind a tag that was shown, and their rows.
 ghost use Rattle.std.specs.Prelude.{◌<◌, Ok};
 ghost use Rattle.room.specs.Open.{depth, row_turned};
-ghost use Rattle.de.specs.Steps.{template_comes, rows_come, turns, Finds};
+ghost use Rattle.de.specs.Steps.{template_comes, rows_come, turns, found, Finds};
 ghost use Rattle.de.specs.Held.{body_of};
+ghost use Rattle.de.specs.declared.event.Ahead.TheVariants.{Passed};
+ghost use Rattle.de.specs.declared.event.Event.TheVariants.{ArrayBegin};
 
 use super::event::{Ahead, Event};
 use super::events::Events;
@@ -12,9 +14,9 @@ use read::DeRead;
 impl<R: DeRead> Events<R> {
     // The rows of a template whose keys were listed.
     #[tactic(auto, using(crate::proofs::Finding::then_finds, crate::proofs::Finding::stop_finds), unfolding(crate::specs::Steps::rows_come))]
-    fn rows(&mut self) -> Result<Ahead, Refusal>
+    fn rows(&mut self) -> Result<(), Refusal>
         requires { depth self.old.opens.opens < 128 }
-        ensures { Finds (rows_come R.DeRead.lends self.old.opens.listed (body_of R.DeRead.view self.old) (body_of R.DeRead.view self.old).reader) result (body_of R.DeRead.view self.new) }
+        ensures { Finds (rows_come R.DeRead.lends self.old.opens.listed (body_of R.DeRead.view self.old) (body_of R.DeRead.view self.old).reader) (found (λ _. Passed ArrayBegin) result) (body_of R.DeRead.view self.new) }
     {
         let place = self.bunser.read_count();
         let n = self.bunser.placed_count()?;
@@ -26,12 +28,12 @@ impl<R: DeRead> Events<R> {
         }
         self.opens.rows(n);
         self.pass();
-        Ok(Ahead::Passed(Event::ArrayBegin))
+        Ok(())
     }
 
     #[tactic(auto, using(crate::proofs::Finding::then_finds, crate::proofs::Finding::stop_finds), unfolding(crate::specs::Steps::template_comes))]
-    pub(crate) fn template(&mut self) -> Result<Ahead, Refusal>
-        ensures { Finds (template_comes R.DeRead.lends (body_of R.DeRead.view self.old)) result (body_of R.DeRead.view self.new) }
+    pub(crate) fn template(&mut self) -> Result<(), Refusal>
+        ensures { Finds (template_comes R.DeRead.lends (body_of R.DeRead.view self.old)) (found (λ _. Passed ArrayBegin) result) (body_of R.DeRead.view self.new) }
     {
         if !self.opens.is_free() {
             return Err(self.too_deep());

@@ -36,9 +36,12 @@ fn fetch<S: Source>(source: &mut S, held: Option<u8>, part: &mut [u8]) -> Result
     requires { length (option_to_list held) ≤ length part.old }
     ensures { Fetch held (S.Source.feed source.old) part.old result (S.Source.feed source.new) part.new }
 {
-    let front = held.as_slice();
-    part[..front.len()].copy_from_slice(front);
-    if let Err(short) = read_exact(source, &mut part[front.len()..]) {
+    let mut filled = 0;
+    if let Some(byte) = held {
+        part[0] = byte;
+        filled = 1;
+    }
+    if let Err(short) = read_exact(source, &mut part[filled..]) {
         part.fill(0);
         return Err(short.into());
     }
