@@ -1,4 +1,6 @@
 fn main() {
     println!("cargo:rustc-link-search=native=out");
-    println!("cargo:rerun-if-changed=out/libtiming.a");
+    for way in ["drain_slice", "drain_reader", "skip_slice"] {
+        println!("cargo:rerun-if-changed=out/lib{way}.a");
+    }
 }

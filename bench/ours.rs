@@ -1,10 +1,18 @@
-//! The reader of this repository, through the static library that is made of timed.txt. Each answers how many events have passed
-//! where the table is accepted, and else 0.
+//! The reader of this repository, through the static libraries that are made of drain_slice.txt, drain_reader.txt and
+//! skip_slice.txt. Each answers how many events have passed where the table is accepted, and else 0.
 
-#[link(name = "timing", kind = "static")]
+#[link(name = "drain_slice", kind = "static")]
 unsafe extern "C" {
     fn timing_drain_slice(table: *const u8, length: usize) -> usize;
+}
+
+#[link(name = "drain_reader", kind = "static")]
+unsafe extern "C" {
     fn timing_drain_reader(table: *const u8, length: usize, text: *mut u8, room: usize) -> usize;
+}
+
+#[link(name = "skip_slice", kind = "static")]
+unsafe extern "C" {
     fn timing_skip_slice(table: *const u8, length: usize) -> usize;
 }
 
