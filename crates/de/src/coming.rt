@@ -40,22 +40,10 @@ impl<R: DeRead> Events<R> {
                 Ok(Ahead::Passed(Event::Int(width, value)))
             }
             (_, Ok(Tag::Real)) => Ok(Ahead::Passed(Event::Real(self.real()?))),
-            (_, Ok(Tag::True)) => {
-                self.only_tag();
-                Ok(Ahead::Passed(Event::True))
-            }
-            (_, Ok(Tag::False)) => {
-                self.only_tag();
-                Ok(Ahead::Passed(Event::False))
-            }
-            (_, Ok(Tag::Null)) => {
-                self.only_tag();
-                Ok(Ahead::Passed(Event::Null))
-            }
-            (Due::Cell, Ok(Tag::Skip)) => {
-                self.only_tag();
-                Ok(Ahead::Passed(Event::Absent))
-            }
+            (_, Ok(Tag::True)) => Ok(self.only_tag(Event::True)),
+            (_, Ok(Tag::False)) => Ok(self.only_tag(Event::False)),
+            (_, Ok(Tag::Null)) => Ok(self.only_tag(Event::Null)),
+            (Due::Cell, Ok(Tag::Skip)) => Ok(self.only_tag(Event::Absent)),
             (_, Ok(Tag::Skip) | Err(_)) => {
                 Err(ReadError::Byte(Kind::NextItem, tag).at(self.bunser.read_count()))
             }

@@ -1,11 +1,13 @@
 //! Items: numbers, texts and what is only a tag, behind a tag that was shown.
-ghost use Rattle.de.specs.Steps.{int_comes, real_comes, text_comes, tag_comes, found, Finds};
-ghost use Rattle.std.specs.Prelude.{Ok};
+ghost use Rattle.de.specs.Steps.{int_comes, real_comes, text_comes, tag_comes, behind, found, Finds};
+ghost use Rattle.std.specs.Prelude.{◌≡◌, Ok};
+ghost use Rattle.read.specs.Reader.{discarded};
+ghost use Rattle.room.specs.Open.{filled};
 ghost use Rattle.de.specs.Held.{body_of};
-ghost use Rattle.de.specs.declared.event.Event.{Event};
 ghost use Rattle.de.specs.declared.event.Event.TheVariants.{Int, Real};
 ghost use Rattle.de.specs.declared.event.Ahead.TheVariants.{Passed, Text};
 
+use super::event::{Ahead, Event};
 use super::events::Events;
 use bunser::placed;
 use bunser::text::{TextKind, Unread};
@@ -46,12 +48,20 @@ impl<R: DeRead> Events<R> {
         Ok(self.wait(Unread { kind, len }))
     }
 
-    // A value that is only its tag.
-    #[tactic(auto, using(crate::proofs::Finding::then_finds, crate::proofs::Finding::stop_finds), unfolding(crate::specs::Steps::tag_comes))]
-    pub(crate) fn only_tag(&mut self)
-        ensures { (e : Event) → Finds (tag_comes R.DeRead.lends e (body_of R.DeRead.view self.old)) (Ok (Passed e)) (body_of R.DeRead.view self.new) }
+    // A value that is only its tag passes.
+    fn pass_tag(&mut self)
+        ensures { body_of R.DeRead.view self.new ≡ behind (body_of R.DeRead.view self.old) (discarded R.DeRead.lends (body_of R.DeRead.view self.old).reader) (filled (body_of R.DeRead.view self.old).opens) }
     {
         self.bunser.discard();
         self.pass_value();
+    }
+
+    // A value that is only its tag. What it does is a call of its own, so that this one is small enough to be laid out in line.
+    #[tactic(auto, unfolding(crate::specs::Steps::tag_comes))]
+    pub(crate) fn only_tag(&mut self, event: Event) -> Ahead
+        ensures { Finds (tag_comes R.DeRead.lends event (body_of R.DeRead.view self.old)) (Ok result) (body_of R.DeRead.view self.new) }
+    {
+        self.pass_tag();
+        Ahead::Passed(event)
     }
 }
