@@ -1,6 +1,6 @@
 fn main() {
-    for (folder, name) in [("../crates/firmware/out", "firmware"), ("out", "comparing")] {
-        println!("cargo:rustc-link-search=native={folder}");
-        println!("cargo:rerun-if-changed={folder}/lib{name}.a");
+    println!("cargo:rustc-link-search=native=out");
+    for name in ["firmware", "comparing"] {
+        println!("cargo:rerun-if-changed=out/lib{name}.a");
     }
 }

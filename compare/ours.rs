@@ -1,4 +1,4 @@
-//! The reader of this repository: over a slice through the static library that crates/firmware makes, and over pieces, which it
+//! The reader of this repository: over a slice through the static library that is made of crates/firmware, and over pieces, which it
 //! copies, through the one that is made of pieces.txt.
 
 use std::mem::size_of;
