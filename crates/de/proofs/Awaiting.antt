@@ -1,9 +1,8 @@
 -- A text that comes is awaited, and where what comes is refused none is.
-use Rattle.std.proofs.Common.{◌≡◌, ℕ, Bool, true, false, cond, ltb, List, ◌∷◌, Some, None, Option, refl, ◌==◌}
+use Rattle.std.proofs.Common.{◌≡◌, ℕ, Bool, true, false, cond, ltb, List, ◌∷◌, Some, None, Option, refl}
 use Rattle.read.specs.Reader.{View, discarded}
 use Rattle.format.specs.declared.refusal.Refusal.{Refusal}
 use Rattle.format.specs.declared.width.Width.{Width}
-use Rattle.format.specs.declared.width.Width.TheVariants.{W8, W16, W32, W64}
 use Rattle.format.specs.declared.refusal.Cause.TheVariants.{Depth, NoKeys}
 use Rattle.format.specs.declared.refusal.Kind.TheVariants.{MapKey}
 use Rattle.bunser.specs.declared.text.TextKind.{TextKind}
@@ -20,7 +19,8 @@ use Rattle.room.specs.KeyList.{key_list_read}
 use Rattle.de.specs.declared.event.Event.{Event}
 use Rattle.de.specs.declared.event.Event.TheVariants as event
 use Rattle.de.specs.declared.event.Ahead.TheVariants as ahead
-use Rattle.de.specs.Steps.{Body, moved, Coming, comes, halts, reading, levelled, keyless, refuse, passes, awaits, rows_by, rows_come, int_comes, real_comes, text_comes, key_comes, tag_comes, array_comes, object_comes, template_comes, gap_comes, tagged, item_comes, due_comes, unread_comes, coming}
+use Rattle.de.proofs.Tags.{by_tag}
+use Rattle.de.specs.Steps.{Body, moved, Coming, comes, halts, reading, levelled, keyless, refuse, passes, awaits, rows_by, rows_come, int_comes, real_comes, text_comes, key_comes, tag_comes, array_comes, object_comes, template_comes, tagged, item_comes, due_comes, unread_comes, coming}
 
 abbrev pub Awaited : Coming → Type 0
 Awaited (comes ahead.Nothing b) = Unit {0}
@@ -81,27 +81,9 @@ module _ (lends : Bool) (b : Body) (e : b.unread ≡ None) where
   unfolding tag_comes
   tag_awaits x = tt
 
-  gap_awaits : (cell : Bool) (t : ℕ) → Awaited (gap_comes lends cell t b)
-  gap_awaits true t = tag_awaits event.Absent
-  gap_awaits false t = e
-
   tagged_awaits : (cell : Bool) (t : ℕ) → Awaited (tagged lends cell t b)
-  unfolding tagged
   tagged_awaits cell t =
-      cond_awaits (t == 0x00) _ _ array_awaits
-      (cond_awaits (t == 0x01) _ _ object_awaits
-      (cond_awaits (t == 0x02) _ _ (text_awaits text.Bytes)
-      (cond_awaits (t == 0x03) _ _ (int_awaits W8)
-      (cond_awaits (t == 0x04) _ _ (int_awaits W16)
-      (cond_awaits (t == 0x05) _ _ (int_awaits W32)
-      (cond_awaits (t == 0x06) _ _ (int_awaits W64)
-      (cond_awaits (t == 0x07) _ _ real_awaits
-      (cond_awaits (t == 0x08) _ _ (tag_awaits event.True)
-      (cond_awaits (t == 0x09) _ _ (tag_awaits event.False)
-      (cond_awaits (t == 0x0a) _ _ (tag_awaits event.Null)
-      (cond_awaits (t == 0x0b) _ _ template_awaits
-      (cond_awaits (t == 0x0c) _ _ (gap_awaits cell t)
-      (cond_awaits (t == 0x0d) _ _ (text_awaits text.Text) e)))))))))))))
+      by_tag lends b t Awaited array_awaits object_awaits template_awaits text_awaits int_awaits real_awaits (tag_awaits event.True) (tag_awaits event.False) (tag_awaits event.Null) (tag_awaits event.Absent) e cell
 
 item_awaits : (lends cell : Bool) (b : Body) → b.unread ≡ None → Awaited (item_comes lends cell b)
 unfolding item_comes

@@ -6,26 +6,27 @@ use Rattle.utf8.specs.Utf8.{utf8}
 use Rattle.read.specs.declared.Taken.{Taken}
 use Rattle.read.specs.Reader.{View, held, advanced, discarded, cramped}
 use Rattle.format.specs.declared.width.Width.{Width}
-use Rattle.format.specs.declared.width.Width.TheVariants.{W8, W16, W32, W64}
 use Rattle.format.specs.declared.refusal.ReadError.{ReadError}
 use Rattle.format.specs.declared.refusal.Kind.{Kind}
 use Rattle.format.specs.declared.refusal.Kind.TheVariants.{TemplateKey, MapKey}
 use Rattle.format.specs.declared.refusal.Cause.TheVariants.{NoKeys}
 use Rattle.format.specs.declared.refusal.Refusal.{Refusal}
 use Rattle.format.specs.Integers.{bytes_of}
-use Rattle.bunser.specs.Outcome.{Outcome, got, bad, and_then, placed, asked, answer}
+use Rattle.bunser.specs.Outcome.{Outcome, asked, answer}
 use Rattle.bunser.specs.Reads.{peek_read, bytes_read, int_read, real_read, int_width, behind_tag, tagged_int_read, count_of, told_as, count_read}
 use Rattle.bunser.specs.Texts.{textual, text_read, begins_key, placed_count, key_length_read}
 use Rattle.bunser.specs.declared.text.TextKind.{TextKind}
 use Rattle.bunser.specs.declared.text.TextKind.TheVariants as text
 use Rattle.bunser.specs.declared.text.Unread.{Unread}
 use Rattle.bunser.proofs.Asking.{granted}
+use Rattle.de.proofs.Got.{IfGot, gave, refused, got_then, got_placed, got_roomed, got_if, got_answer}
+use Rattle.de.proofs.Tags.{by_tag}
 use Rattle.room.specs.Open.{Column, lent, copied, column_bytes, Open, start, items, pairs, field, rows, row, cell, due, filled, keyed, row_turned, column, depth, keys_held, bytes_held}
-use Rattle.room.specs.KeyList.{key_space, in_key_room, key_read, keys_read, listed_read, key_list_read}
+use Rattle.room.specs.KeyList.{key_space, key_read, keys_read, listed_read, key_list_read}
 use Rattle.de.specs.declared.event.Event.{Event}
 use Rattle.de.specs.declared.event.Event.TheVariants as event
 use Rattle.de.specs.declared.event.Ahead.TheVariants as ahead
-use Rattle.de.specs.Steps.{Body, moved, Coming, comes, halts, reading, int_comes, real_comes, text_comes, key_comes, tag_comes, array_comes, object_comes, refuse, passes, keyless, rows_by, rows_come, template_comes, gap_comes, tagged, item_comes, due_comes, unread_comes, coming, Out, gives, stops, text_outcome, text_space, behind_text, text_by, text_step, column_by, column_step, finishing, step}
+use Rattle.de.specs.Steps.{Body, moved, Coming, comes, halts, reading, int_comes, real_comes, text_comes, key_comes, tag_comes, array_comes, object_comes, refuse, passes, keyless, rows_by, rows_come, template_comes, tagged, item_comes, due_comes, unread_comes, coming, Out, gives, stops, text_outcome, text_space, behind_text, text_by, text_step, column_by, column_step, finishing, step}
 
 -- ---- the number
 
@@ -61,7 +62,7 @@ left b = weight (awaited b.unread + length b.reader.coming) b.opens
 -- ---- what is open
 
 -- a value that begins adds most behind the last cell of a row
-filled_little : {C : Type 0} (s : List (Open C)) → idle (filled s) ≤ 3 + idle s
+pub filled_little : {C : Type 0} (s : List (Open C)) → idle (filled s) ≤ 3 + idle s
 filled_little [] = omega arith
 filled_little (start ∷ s) = omega arith
 filled_little (items zero ∷ s) = omega arith
@@ -92,94 +93,73 @@ text_little text.Key s = omega (arith, keyed_little s)
 
 -- ---- reads
 
--- what a read that gives something leaves
-data IfGot {E A : Type 0} (P : View → Type 0) : Outcome E A → Type 0 where
-  gave : {a : A} {v : View} → P v → IfGot P (got a v)
-  refused : {e : E} {v : View} → IfGot P (bad e v)
-
-got_then : {E A B : Type 0} {P Q : View → Type 0} {m : Outcome E A} {f : A → View → Outcome E B} → IfGot P m → ((a : A) (v : View) → P v → IfGot Q (f a v)) → IfGot Q (and_then m f)
-got_then (gave {a} {v} h) k = k a v h
-got_then refused k = refused
-
-got_placed : {A : Type 0} {P : View → Type 0} {m : Outcome ReadError A} (p : ℕ) → IfGot P m → IfGot P (placed p m)
-got_placed p (gave h) = gave h
-got_placed p refused = refused
-
-got_if : {E A : Type 0} {P : View → Type 0} {m n : Outcome E A} (b : Bool) → IfGot P m → IfGot P n → IfGot P (cond b m n)
-got_if true h k = h
-got_if false h k = k
-
-got_answer : {A : Type 0} {P : View → Type 0} (o : Option ReadError) (v : View) (a : A) (w : View) → (o ≡ None → P w) → IfGot P (answer o v a w)
-got_answer None v a w h = gave (h refl)
-got_answer (Some e) v a w h = refused
-
 -- fewer than so many bytes are to come
 abbrev Fewer : ℕ → View → Type 0
 Fewer n v = length v.coming < n
 
+-- after a read that gives anything
+abbrev Few : ℕ → {A : Type 0} → A → View → Type 0
+Few n a v = Fewer n v
+
 module _ (lends : Bool) (end : Option ℕ) (most : ℕ) where
   -- a tag that is shown is still to come, and can be taken
-  peek_fewer : (v : View) → length v.coming ≤ most → IfGot (λ w. Fewer most (discarded lends w)) (peek_read end v)
+  peek_fewer : (v : View) → length v.coming ≤ most → IfGot (λ t w. Fewer most (discarded lends w)) (peek_read end v)
   peek_fewer v h = got_answer (asked end v None 1) v _ (held v) (λ e. let some = granted end v None 1 e in omega (arith, length-drop 1 v.coming))
 
-  taken_fewer : {A : Type 0} (space : Option ℕ) (n : ℕ) (v : View) (a : A) → Fewer most v → IfGot (Fewer most) (answer (asked end v space n) v a (advanced lends n v))
+  taken_fewer : {A : Type 0} (space : Option ℕ) (n : ℕ) (v : View) (a : A) → Fewer most v → IfGot (Few most) (answer (asked end v space n) v a (advanced lends n v))
   taken_fewer space n v a h = got_answer (asked end v space n) v a (advanced lends n v) (λ e. omega (arith, length-drop n v.coming))
 
-  bytes_fewer : (space : Option ℕ) (n : ℕ) (v : View) → Fewer most v → IfGot (Fewer most) (bytes_read lends end space n v)
+  bytes_fewer : (space : Option ℕ) (n : ℕ) (v : View) → Fewer most v → IfGot (Few most) (bytes_read lends end space n v)
   bytes_fewer space n v = taken_fewer space n v _
 
-  int_fewer : (w : Width) (v : View) → Fewer most v → IfGot (Fewer most) (int_read lends end w v)
+  int_fewer : (w : Width) (v : View) → Fewer most v → IfGot (Few most) (int_read lends end w v)
   int_fewer w v = taken_fewer None (bytes_of w) v _
 
-  real_fewer : (v : View) → Fewer most v → IfGot (Fewer most) (real_read lends end v)
+  real_fewer : (v : View) → Fewer most v → IfGot (Few most) (real_read lends end v)
   real_fewer v = taken_fewer None 8 v _
 
-  count_fewer : (v : View) → Fewer most v → IfGot (Fewer most) (placed_count lends end v)
+  count_fewer : (v : View) → Fewer most v → IfGot (Few most) (placed_count lends end v)
   unfolding count_read tagged_int_read
   count_fewer v h = got_placed v.count (got_then (got_then (peek_fewer v (omega arith)) (λ t. behind (int_width t))) (λ z. result (count_of z)))
     where
-      behind : (r : Result Width ReadError) (w : View) → Fewer most (discarded lends w) → IfGot (Fewer most) (behind_tag lends end r w)
+      behind : (r : Result Width ReadError) (w : View) → Fewer most (discarded lends w) → IfGot (Few most) (behind_tag lends end r w)
       behind (Ok k) w = int_fewer k (discarded lends w)
       behind (Err e) w = λ _. refused
 
-      result : {A : Type 0} (r : Result A ReadError) (w : View) → Fewer most w → IfGot (Fewer most) (told_as r w)
+      result : {A : Type 0} (r : Result A ReadError) (w : View) → Fewer most w → IfGot (Few most) (told_as r w)
       result (Ok a) w = gave
       result (Err e) w = λ _. refused
 
-  text_fewer : (space : Option ℕ) (n : ℕ) (v : View) → Fewer most v → IfGot (Fewer most) (text_read lends end space n v)
+  text_fewer : (space : Option ℕ) (n : ℕ) (v : View) → Fewer most v → IfGot (Few most) (text_read lends end space n v)
   unfolding text_read
   text_fewer space n v h = got_then (bytes_fewer space n v h) (judged (utf8 (take n v.coming)))
     where
-      judged : (b : Bool) (t : Taken) (w : View) → Fewer most w → IfGot (Fewer most) (textual b t w)
+      judged : (b : Bool) (t : Taken) (w : View) → Fewer most w → IfGot (Few most) (textual b t w)
       judged true t w = gave
       judged false t w = λ _. refused
 
-  outcome_fewer : (space : Option ℕ) (n : ℕ) (v : View) → Fewer most v → (k : TextKind) → IfGot (Fewer most) (text_outcome k lends end space n v)
+  outcome_fewer : (space : Option ℕ) (n : ℕ) (v : View) → Fewer most v → (k : TextKind) → IfGot (Few most) (text_outcome k lends end space n v)
   outcome_fewer space n v h text.Bytes = bytes_fewer space n v h
   outcome_fewer space n v h text.Text = text_fewer space n v h
   outcome_fewer space n v h text.Key = text_fewer space n v h
 
-  key_length_fewer : (kind : Kind) (v : View) → length v.coming ≤ most → IfGot (Fewer most) (key_length_read lends end kind v)
+  key_length_fewer : (kind : Kind) (v : View) → length v.coming ≤ most → IfGot (Few most) (key_length_read lends end kind v)
   unfolding key_length_read
   key_length_fewer kind v h = got_then (got_placed v.count (peek_fewer v h)) (λ t w l. got_if (begins_key t) (count_fewer (discarded lends w) l) refused)
 
-  key_fewer : (taken : ℕ) (v : View) → Fewer most v → IfGot (Fewer most) (key_read lends end taken v)
+  key_fewer : (taken : ℕ) (v : View) → Fewer most v → IfGot (Few most) (key_read lends end taken v)
   unfolding key_read
-  key_fewer taken v h = got_then (key_length_fewer TemplateKey v (omega arith)) (λ n w l. got_then (roomed w.count (text_fewer (key_space lends taken) n w l)) (λ t u. gave))
-    where
-      roomed : {A : Type 0} {m : Outcome ReadError A} (p : ℕ) → IfGot (Fewer most) m → IfGot (Fewer most) (in_key_room p m)
-      roomed p (gave h) = gave h
-      roomed p refused = refused
+  key_fewer taken v h = got_then (key_length_fewer TemplateKey v (omega arith)) (λ n w l. got_then (got_roomed w.count (text_fewer (key_space lends taken) n w l)) (λ t u. gave))
 
-  keys_fewer : (taken n : ℕ) (v : View) → Fewer most v → IfGot (Fewer most) (keys_read lends end taken n v)
+  keys_fewer : (taken n : ℕ) (v : View) → Fewer most v → IfGot (Few most) (keys_read lends end taken n v)
   keys_fewer taken zero v h = gave h
   keys_fewer taken (suc n) v h = got_then (key_fewer taken v h) (λ k w l. got_then (keys_fewer (taken + column_bytes (k ∷ [])) n w l) (λ ks u. gave))
 
-  key_list_fewer : (levels keys taken : ℕ) (v : View) → Fewer most v → IfGot (Fewer most) (key_list_read lends end levels keys taken v)
+  key_list_fewer : (levels keys taken : ℕ) (v : View) → Fewer most v → IfGot (Few most) (key_list_read lends end levels keys taken v)
   unfolding key_list_read
   key_list_fewer levels keys taken v h = got_then (got_placed v.count (peek_fewer v (omega arith))) (λ t w l. got_if (t == 0x00) (got_if (nat_lt (suc levels) 128) (listed w l) refused) refused)
     where
-      listed : (w : View) → Fewer most (discarded lends w) → IfGot (Fewer most) (listed_read lends end keys taken w)
+      listed : (w : View) → Fewer most (discarded lends w) → IfGot (Few most) (listed_read lends end keys taken w)
       listed w l = got_then (count_fewer (discarded lends w) l) (λ n u g. got_if (nat_le (keys + n) 256) (keys_fewer taken n u g) refused)
 
 -- ---- what comes
@@ -196,7 +176,7 @@ falls_if : {n : ℕ} {x y : Coming} (b : Bool) → Falls n x → Falls n y → F
 falls_if true h k = h
 falls_if false h k = k
 
-falls_reading : {A : Type 0} {n : ℕ} {P : View → Type 0} {m : Outcome Refusal A} {f : A → View → Coming} (b : Body) → IfGot P m → ((a : A) (v : View) → P v → Falls n (f a v)) → Falls n (reading m b f)
+falls_reading : {A : Type 0} {n : ℕ} {P : A → View → Type 0} {m : Outcome Refusal A} {f : A → View → Coming} (b : Body) → IfGot P m → ((a : A) (v : View) → P a v → Falls n (f a v)) → Falls n (reading m b f)
 falls_reading b (gave {a} {v} h) k = k a v h
 falls_reading b refused k = halted
 
@@ -224,10 +204,6 @@ module _ (lends : Bool) (most : ℕ) (b : Body) (shown : Fewer most (discarded l
   unfolding tag_comes
   tag_falls e = falls (omega (arith, filled_little b.opens))
 
-  gap_falls : (gap : Bool) (t : ℕ) → Value (gap_comes lends gap t b)
-  gap_falls true t = tag_falls event.Absent
-  gap_falls false t = halted
-
   array_falls : Value (array_comes lends b)
   unfolding array_comes
   array_falls = falls_if (nat_lt (depth b.opens) 128) (counting _ (λ n v l. falls (omega (arith, filled_little b.opens)))) halted
@@ -254,22 +230,9 @@ module _ (lends : Bool) (most : ℕ) (b : Body) (shown : Fewer most (discarded l
       halted
 
   tagged_falls : (gap : Bool) (t : ℕ) → Value (tagged lends gap t b)
-  unfolding tagged
   tagged_falls gap t =
-      falls_if (t == 0x00) array_falls
-      (falls_if (t == 0x01) object_falls
-      (falls_if (t == 0x02) (text_falls text.Bytes)
-      (falls_if (t == 0x03) (int_falls W8)
-      (falls_if (t == 0x04) (int_falls W16)
-      (falls_if (t == 0x05) (int_falls W32)
-      (falls_if (t == 0x06) (int_falls W64)
-      (falls_if (t == 0x07) real_falls
-      (falls_if (t == 0x08) (tag_falls event.True)
-      (falls_if (t == 0x09) (tag_falls event.False)
-      (falls_if (t == 0x0a) (tag_falls event.Null)
-      (falls_if (t == 0x0b) template_falls
-      (falls_if (t == 0x0c) (gap_falls gap t)
-      (falls_if (t == 0x0d) (text_falls text.Text) halted)))))))))))))
+      by_tag lends b t (Falls (weight most b.opens)) array_falls object_falls template_falls text_falls int_falls real_falls (tag_falls event.True) (tag_falls event.False) (tag_falls event.Null) (tag_falls event.Absent)
+      halted gap
 
 module _ (lends : Bool) where
   item_falls : (gap : Bool) (b : Body) → Falls (weight (length b.reader.coming) b.opens) (item_comes lends gap b)
@@ -321,7 +284,7 @@ module _ (lends : Bool) (space : Option ℕ) where
   unfolding text_step
   text_given n u b h = by (got_placed b.reader.count (outcome_fewer lends b.end (1 + length b.reader.coming) (text_space lends space) u.len b.reader (omega arith) u.kind)) _
     where
-      by : {m : Outcome Refusal Taken} → IfGot (Fewer (1 + length b.reader.coming)) m → (x : List ℕ) → Given n (text_by m u b x)
+      by : {m : Outcome Refusal Taken} → IfGot (Few (1 + length b.reader.coming)) m → (x : List ℕ) → Given n (text_by m u b x)
       by (gave l) x = given (omega arith)
       by refused x = stopped
 

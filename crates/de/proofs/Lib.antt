@@ -1,4 +1,6 @@
 pub mod Finding
+pub mod Got
+pub mod Tags
 pub mod Falling
 pub mod Awaiting
 pub mod Passing

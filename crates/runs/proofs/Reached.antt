@@ -10,7 +10,8 @@ use Rattle.runs.proofs.Alike.{takes_same}
 use Rattle.runs.proofs.Coming.{Completes, at_end, goes, freed, nothing_comes, completion}
 use Rattle.runs.proofs.Encoded.{unlimited, begins_with}
 use Rattle.runs.proofs.Decoded.{value_of}
-use Rattle.runs.proofs.Paying.{owed, pays}
+use Rattle.de.proofs.Falling.{idle}
+use Rattle.runs.proofs.Paying.{pays}
 
 -- where these bytes are the first to come, the event that was read from them is the first to come
 next_comes : {L K : Limits} {s t : List Level} {c y : List ℕ} {e : Event} {z : List Event} (b : List ℕ) → Takes K s c e t → Completes L s y z → y ≡ c ++ b → (x : List Event) × (z ≡ e ∷ x) × Completes L t b x
@@ -39,7 +40,7 @@ pub record Reached (lends : Bool) (taken : List ℕ) (es : List Event) (s : List
   -- what may still come makes a whole body of what has come
   pub completed : (b : List ℕ) (x : List Event) → Completes none s b x → Completes none (start ∷ []) (taken ++ b) (es ++ x)
   pub some : (w : Value) × Formed w × (b : List ℕ) × (encoding w ≡ taken ++ b)
-  pub paid : length es + owed s ≤ 4 * length taken
+  pub paid : length es + idle s ≤ 4 * length taken
 
 pub reached_first : {lends : Bool} → Reached lends [] [] (start ∷ [])
 reached_first = record {

@@ -1,8 +1,7 @@
 -- Every way that a step may go: what holds of an event, of a refusal and of the step of a text holds of each step.
-use Rattle.std.proofs.Common.{◌≡◌, ℕ, suc, Bool, true, false, cond, eqb, ltb, List, [], ◌∷◌, length, Some, None, Option, refl}
+use Rattle.std.proofs.Common.{◌≡◌, ℕ, suc, Bool, true, false, cond, ltb, List, [], ◌∷◌, length, Some, None, Option, refl}
 use Rattle.read.specs.Reader.{View, cramped, discarded}
 use Rattle.format.specs.declared.width.Width.{Width}
-use Rattle.format.specs.declared.width.Width.TheVariants.{W8, W16, W32, W64}
 use Rattle.format.specs.declared.refusal.ReadError.TheVariants as error
 use Rattle.format.specs.declared.refusal.Kind.TheVariants as kind
 use Rattle.format.specs.declared.refusal.Refusal.{Refusal}
@@ -17,7 +16,8 @@ use Rattle.room.specs.Open.{Column, lent, copied, column_bytes, Open, items, pai
 use Rattle.room.specs.Open as room
 use Rattle.room.specs.KeyList.{key_list_read}
 use Rattle.de.specs.declared.event.Event.{Event}
-use Rattle.de.specs.Steps.{Body, Coming, Out, gives, stops, moved, reading, int_comes, real_comes, text_comes, key_comes, tag_comes, levelled, array_comes, object_comes, keyless, rows_come, template_comes, gap_comes, tagged, item_comes, due_comes, unread_comes, coming, text_step, column_by, column_passes, column_step, finishing, step}
+use Rattle.de.proofs.Tags.{by_tag}
+use Rattle.de.specs.Steps.{Body, Coming, Out, gives, stops, moved, reading, int_comes, real_comes, text_comes, key_comes, tag_comes, levelled, array_comes, object_comes, keyless, rows_come, template_comes, tagged, item_comes, due_comes, unread_comes, coming, text_step, column_by, column_passes, column_step, finishing, step}
 
 none_due : (o : List (Open Column)) → room.due o ≡ due.Done → o ≡ []
 none_due [] e = refl
@@ -60,23 +60,12 @@ module _ (lends : Bool) (space : Option ℕ) (Holds : Out → Type 0) (passed : 
   rows_hold ks b v calm = reading_holds (placed_count lends b.end v) b _ calm (λ n w. cond_holds (keyless n ks) _ _ (refused _ _ [] calm) (passed _ _ _))
 
   tagged_holds : (may : Bool) (t : ℕ) (b : Body) → b.unread ≡ None → Holds (finishing lends space (tagged lends may t b))
-  unfolding tagged array_comes object_comes text_comes real_comes tag_comes template_comes
+  unfolding array_comes object_comes text_comes real_comes tag_comes template_comes
   tagged_holds may t b calm =
-      cond_holds (eqb t 0x00) _ _ (deeper _ (counted _ (λ n v. passed _ _ _)))
-      (cond_holds (eqb t 0x01) _ _ (deeper _ (counted _ (λ n v. passed _ _ _)))
-      (cond_holds (eqb t 0x02) _ _ (counted _ (λ n v. text _ _ refl))
-      (cond_holds (eqb t 0x03) _ _ (int_holds W8 b calm)
-      (cond_holds (eqb t 0x04) _ _ (int_holds W16 b calm)
-      (cond_holds (eqb t 0x05) _ _ (int_holds W32 b calm)
-      (cond_holds (eqb t 0x06) _ _ (int_holds W64 b calm)
-      (cond_holds (eqb t 0x07) _ _ (reading_holds (placed b.reader.count (real_read lends b.end (discarded lends b.reader))) b _ calm (λ n v. passed _ _ _))
-      (cond_holds (eqb t 0x08) _ _ (passed _ _ _)
-      (cond_holds (eqb t 0x09) _ _ (passed _ _ _)
-      (cond_holds (eqb t 0x0a) _ _ (passed _ _ _)
-      (cond_holds (eqb t 0x0b) _ _
+      by_tag lends b t (λ c. Holds (finishing lends space c)) (deeper _ (counted _ (λ n v. passed _ _ _))) (deeper _ (counted _ (λ n v. passed _ _ _)))
       (deeper _ (reading_holds (key_list_read lends b.end (depth b.opens) (keys_held b.opens) (bytes_held column_bytes b.opens) (discarded lends b.reader)) b _ calm (λ ks v. rows_hold ks b v calm)))
-      (cond_holds (eqb t 0x0c) _ _ (gap_holds may)
-      (cond_holds (eqb t 0x0d) _ _ (counted _ (λ n v. text _ _ refl)) (refused _ b [] calm))))))))))))))
+      (λ k. counted _ (λ n v. text _ _ refl)) (λ w. int_holds w b calm) (reading_holds (placed b.reader.count (real_read lends b.end (discarded lends b.reader))) b _ calm (λ n v. passed _ _ _))
+      (passed _ _ _) (passed _ _ _) (passed _ _ _) (passed _ _ _) (refused _ b [] calm) may
     where
       deeper : (m : Coming) → Holds (finishing lends space m) → Holds (finishing lends space (levelled b m))
       deeper m h = cond_holds (ltb (depth b.opens) 128) m _ h (refused _ b [] calm)
@@ -84,10 +73,6 @@ module _ (lends : Bool) (space : Option ℕ) (Holds : Out → Type 0) (passed : 
       counted : (f : ℕ → View → Coming) → ((n : ℕ) (v : View) → Holds (finishing lends space (f n v))) →
           Holds (finishing lends space (reading (placed_count lends b.end (discarded lends b.reader)) b f))
       counted f h = reading_holds (placed_count lends b.end (discarded lends b.reader)) b f calm h
-
-      gap_holds : (may : Bool) → Holds (finishing lends space (gap_comes lends may t b))
-      gap_holds true = passed _ _ _
-      gap_holds false = refused _ b [] calm
 
   item_holds : (may : Bool) (b : Body) → b.unread ≡ None → Holds (finishing lends space (item_comes lends may b))
   unfolding item_comes

@@ -1,58 +1,33 @@
 -- What the events of a lent table hand out lies inside the table.
-use Rattle.std.proofs.Common.{◌≡◌, ℕ, zero, suc, ◌+◌, ◌≤◌, Bool, true, false, cond, List, [], ◌∷◌, length, take, Some, None, Ok, Err, Option, Result, ◌==◌, nat_lt, nat_le, refl, arith}
+use Rattle.std.proofs.Common.{ℕ, zero, suc, ◌+◌, ◌≤◌, Bool, true, false, cond, List, [], ◌∷◌, length, take, Some, None, Ok, Err, Option, Result, ◌==◌, nat_lt, nat_le, arith}
 use Rattle.std.proofs.lemmas.List.{length-drop}
 use Rattle.utf8.specs.Utf8.{utf8}
 use Rattle.read.specs.declared.Taken.{Taken}
 use Rattle.read.specs.declared.Taken.TheVariants.{Lent}
 use Rattle.read.specs.Reader.{View, held, advanced, discarded, cramped}
 use Rattle.format.specs.declared.width.Width.{Width}
-use Rattle.format.specs.declared.width.Width.TheVariants.{W8, W16, W32, W64}
 use Rattle.format.specs.declared.refusal.ReadError.{ReadError}
 use Rattle.format.specs.declared.refusal.Kind.{Kind}
 use Rattle.format.specs.declared.refusal.Kind.TheVariants.{TemplateKey, MapKey}
 use Rattle.format.specs.declared.refusal.Refusal.{Refusal}
 use Rattle.format.specs.Integers.{bytes_of}
-use Rattle.bunser.specs.Outcome.{Outcome, got, bad, and_then, placed, asked, answer}
+use Rattle.bunser.specs.Outcome.{Outcome, asked, answer}
 use Rattle.bunser.specs.Reads.{peek_read, bytes_read, int_read, real_read, int_width, behind_tag, tagged_int_read, count_of, told_as, count_read, magical, magic_read, capabilities_read, length_read, header_read}
 use Rattle.bunser.specs.Texts.{textual, text_read, begins_key, placed_count, key_length_read}
 use Rattle.bunser.specs.declared.text.TextKind.{TextKind}
 use Rattle.bunser.specs.declared.text.TextKind.TheVariants as text
 use Rattle.bunser.specs.declared.text.Unread.{Unread}
 use Rattle.bunser.proofs.Asking.{granted}
+use Rattle.de.proofs.Got.{IfGot, gave, refused, got_then, got_placed, got_roomed, got_if, got_answer}
+use Rattle.de.proofs.Tags.{by_tag}
 use Rattle.room.specs.Open.{Column, lent, copied, column_bytes, Open, start, items, pairs, field, rows, row, cell, due, filled, keyed, row_turned, column, depth, keys_held, bytes_held}
-use Rattle.room.specs.KeyList.{key_space, in_key_room, key_read, keys_read, listed_read, key_list_read}
+use Rattle.room.specs.KeyList.{key_space, key_read, keys_read, listed_read, key_list_read}
 use Rattle.de.specs.declared.event.Event.{Event}
 use Rattle.de.specs.declared.event.Event.TheVariants as event
 use Rattle.de.specs.declared.event.Ahead.{Ahead}
 use Rattle.de.specs.declared.event.Ahead.TheVariants as ahead
-use Rattle.de.specs.Steps.{Body, moved, Coming, comes, halts, reading, int_comes, real_comes, text_comes, key_comes, tag_comes, array_comes, object_comes, keyless, rows_come, template_comes, gap_comes, tagged, item_comes, due_comes, unread_comes, coming, Out, gives, stops, text_outcome, text_event, behind_text, text_by, text_step, column_by, column_step, finishing, step}
+use Rattle.de.specs.Steps.{Body, moved, Coming, comes, halts, reading, int_comes, real_comes, text_comes, key_comes, tag_comes, array_comes, object_comes, keyless, rows_come, template_comes, tagged, item_comes, due_comes, unread_comes, coming, Out, gives, stops, text_outcome, text_event, behind_text, text_by, text_step, column_by, column_step, finishing, step}
 use Rattle.survey.specs.Inside.{TakenInside, EventInside, Fits, ColumnInside, ColumnsInside, OpensInside, BodyInside}
-
--- ---- reads that give something
-
-pub data IfGot {E A : Type 0} (P : A → View → Type 0) : Outcome E A → Type 0 where
-  gave : {a : A} {v : View} → P a v → IfGot P (got a v)
-  refused : {e : E} {v : View} → IfGot P (bad e v)
-
-got_then : {E A B : Type 0} {P : A → View → Type 0} {Q : B → View → Type 0} {m : Outcome E A} {f : A → View → Outcome E B} → IfGot P m → ((a : A) (v : View) → P a v → IfGot Q (f a v)) → IfGot Q (and_then m f)
-got_then (gave {a} {v} h) k = k a v h
-got_then refused k = refused
-
-got_placed : {A : Type 0} {P : A → View → Type 0} {m : Outcome ReadError A} (p : ℕ) → IfGot P m → IfGot P (placed p m)
-got_placed p (gave h) = gave h
-got_placed p refused = refused
-
-got_roomed : {A : Type 0} {P : A → View → Type 0} {m : Outcome ReadError A} (p : ℕ) → IfGot P m → IfGot P (in_key_room p m)
-got_roomed p (gave h) = gave h
-got_roomed p refused = refused
-
-got_if : {E A : Type 0} {P : A → View → Type 0} {m n : Outcome E A} (b : Bool) → IfGot P m → IfGot P n → IfGot P (cond b m n)
-got_if true h k = h
-got_if false h k = k
-
-got_answer : {A : Type 0} {P : A → View → Type 0} (o : Option ReadError) (v : View) (a : A) (w : View) → (o ≡ None → P a w) → IfGot P (answer o v a w)
-got_answer None v a w h = gave (h refl)
-got_answer (Some e) v a w h = refused
 
 module _ (size : ℕ) where
   abbrev pub Gives : {A : Type 0} → A → View → Type 0
@@ -235,10 +210,6 @@ module _ (size : ℕ) where
     unfolding tag_comes
     tag_inside e h = inside h (shown, filled_inside b.opens opens)
 
-    gap_inside : (gap : Bool) (t : ℕ) → Comes (gap_comes true gap t b)
-    gap_inside true t = tag_inside event.Absent tt
-    gap_inside false t = halted
-
     array_inside : Comes (array_comes true b)
     unfolding array_comes
     array_inside = comes_if (nat_lt (depth b.opens) 128) (counting _ (λ n v l. inside tt (l, filled_inside b.opens opens))) halted
@@ -256,22 +227,9 @@ module _ (size : ℕ) where
         halted
 
     tagged_inside : (gap : Bool) (t : ℕ) → Comes (tagged true gap t b)
-    unfolding tagged
     tagged_inside gap t =
-        comes_if (t == 0x00) array_inside
-        (comes_if (t == 0x01) object_inside
-        (comes_if (t == 0x02) (text_inside text.Bytes)
-        (comes_if (t == 0x03) (int_inside W8)
-        (comes_if (t == 0x04) (int_inside W16)
-        (comes_if (t == 0x05) (int_inside W32)
-        (comes_if (t == 0x06) (int_inside W64)
-        (comes_if (t == 0x07) real_inside
-        (comes_if (t == 0x08) (tag_inside event.True tt)
-        (comes_if (t == 0x09) (tag_inside event.False tt)
-        (comes_if (t == 0x0a) (tag_inside event.Null tt)
-        (comes_if (t == 0x0b) template_inside
-        (comes_if (t == 0x0c) (gap_inside gap t)
-        (comes_if (t == 0x0d) (text_inside text.Text) halted)))))))))))))
+        by_tag true b t Comes array_inside object_inside template_inside text_inside int_inside real_inside (tag_inside event.True tt) (tag_inside event.False tt) (tag_inside event.Null tt) (tag_inside event.Absent tt)
+        halted gap
 
   item_inside : (gap : Bool) (b : Body) → BodyInside size b → Comes (item_comes true gap b)
   unfolding item_comes

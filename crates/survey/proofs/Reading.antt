@@ -24,7 +24,8 @@ use Rattle.survey.specs.declared.slot.Slot.{Slot}
 use Rattle.survey.specs.declared.verdict.Verdict.{Verdict}
 use Rattle.survey.specs.Verdicts.{acceptance, refusal_verdict}
 use Rattle.survey.specs.Inside.{Fits, BodyInside}
-use Rattle.survey.proofs.Inside.{IfGot, gave, refused, Gives, header_fits}
+use Rattle.de.proofs.Got.{IfGot, gave, refused}
+use Rattle.survey.proofs.Inside.{Gives, header_fits}
 use Rattle.survey.specs.Surveys.{table_view, Calls, no_more, then_one, Drawn, not_opened, to_the_end, Answers, ReadOut, Judged, Surveyed}
 use Rattle.survey.proofs.Drawing.{as_told}
 
