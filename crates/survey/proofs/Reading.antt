@@ -177,12 +177,17 @@ surveyed {table = table} {s = s} {t = t} {r = r} {v = v} {events = events} {take
   events = d.events;
   last = d.last;
   reads = d.reads;
-  lawful = calls_lawful sound (subst (λ s. Calls s d.told t) new d.calls);
+  left = t;
+  calls = made;
+  lawful = calls_lawful sound made;
   judged = judged r d.answers (is ∙ ap (λ n. verdict_of r n taken) (counted ∙ sym d.counted) ∙ ap (verdict_of r d.last.events) (takes ∙ sym d.count));
   slots = d.slots;
   inside = d.inside (length table) (subst (λ (s : State). Fits (length table) s.body.reader) (sym new) (omega arith));
 }
   where
+    made : Calls (fresh (table_view table)) d.told t
+    made = subst (λ s. Calls s d.told t) new d.calls
+
     judged : (r : Result Closed Refusal) → Answers r d.last.answer → v ≡ verdict_of r d.last.events d.last.count → Judged d.last.answer d.last v
     judged (Ok k) answers is = subst (λ a. Judged a d.last v) (sym answers) is
     judged (Err f) answers is = subst (λ a. Judged a d.last v) (sym answers) is

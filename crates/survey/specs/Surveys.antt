@@ -8,7 +8,7 @@ use Rattle.de.specs.declared.pdu.Closed.{Closed}
 use Rattle.de.specs.declared.entry.Call.TheVariants as call
 use Rattle.de.specs.declared.entry.Answer.{Answer}
 use Rattle.de.specs.declared.entry.Answer.TheVariants as answer
-use Rattle.de.specs.Calls.{State, tally}
+use Rattle.de.specs.Calls.{State, fresh, tally}
 use Rattle.de.specs.Made.{Moment, Logged}
 use Rattle.runs.specs.Law.{Law, Refuses}
 use Rattle.survey.specs.declared.slot.Slot.{Slot}
@@ -84,12 +84,15 @@ Judged (answer.Closed k) m v = v ≡ acceptance m.events m.count
 Judged (answer.Refused f) m v = v ≡ refusal_verdict f m.events m.count
 Judged a m v = ⊥
 
--- a table was read, of which the law of the calls holds
+-- a table was read by calls on a new decoder, each of which answered what it has to, and of which the law holds
 pub record Surveyed (table : List ℕ) (old : List Slot) (v : Verdict) (new : List Slot) : Type 0 where
   pub told : List Moment
   pub events : List Event
   pub last : Moment
   pub reads : Reads told events last
+  -- what the decoder held in the end
+  pub left : State
+  pub calls : Calls (fresh (table_view table)) told left
   pub lawful : Law true (table_view table) told
   pub judged : Judged last.answer last v
   pub slots : new ≡ laid events old
