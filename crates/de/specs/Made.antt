@@ -1,5 +1,5 @@
 -- A call by value, what it answers, and what can be seen then.
-use Rattle.std.specs.Prelude.{◌≡◌, ℕ, Bool, List, [], length, replicate, Some, None, Ok, Err, Option, Result}
+use Rattle.std.specs.Prelude.{◌≡◌, ℕ, Bool, List, [], ◌∷◌, ◌++◌, length, replicate, Some, None, Ok, Err, Option, Result}
 use Rattle.source.specs.Feed.{fronted}
 use Rattle.format.specs.declared.refusal.Refusal.{Refusal}
 use Rattle.de.specs.declared.event.Event.{Event}
@@ -73,6 +73,11 @@ pub record Logged (lends : Bool) (s : State) (m : Moment) (t : State) : Type 0 w
   pub counts : m.count ≡ t.body.reader.count
   pub told_events : m.events ≡ (tally t).0
   pub told_bytes : m.bytes ≡ (tally t).1
+
+-- these calls were made one after the other, from one state to another
+pub data CallsMade (lends : Bool) (s : State) : List Moment → State → Type 0 where
+  none_made : CallsMade lends s [] s
+  one_more : {h : List Moment} {t u : State} (m : Moment) → CallsMade lends s h t → Logged lends t m u → CallsMade lends s (h ++ (m ∷ [])) u
 
 -- an entry of a log
 abbrev pub moment : Entry → Moment

@@ -14,7 +14,7 @@ use Rattle.de.specs.declared.entry.Answer.{Answer}
 use Rattle.de.specs.declared.entry.Answer.TheVariants as answer
 use Rattle.de.specs.Steps.{Body}
 use Rattle.de.specs.Calls.{State, fresh}
-use Rattle.de.specs.Made.{Moment, AsTold, OpenAnswer, NextAnswer, SkipAnswer, CloseAnswer, MadeBy, Logged}
+use Rattle.de.specs.Made.{Moment, AsTold, OpenAnswer, NextAnswer, SkipAnswer, CloseAnswer, MadeBy, Logged, CallsMade, none_made, one_more}
 use Rattle.runs.specs.Law.{running, phase, open_pdu, for_good, count_after, GoesOn, Reads, Whole, PassesEvents, NothingLeft, IfRefused, ForGood, ForGoodOrRoom, Turn, Still, Suits, PduStory, StoryBy, Law}
 use Rattle.runs.proofs.Bodies.{drawn_none, has_ended, nothing_open}
 use Rattle.runs.proofs.Moments.{last_same, uncaught, latched_first, latches_of}
@@ -24,11 +24,6 @@ use Rattle.runs.proofs.Opening.{open_kept, opens_right, open_taken_up}
 use Rattle.runs.proofs.Closing.{close_kept, closes_right, close_asked, close_leaves}
 use Rattle.runs.proofs.Nexting.{next_kept, next_reads, next_taken_up, next_at_end, next_only_there}
 use Rattle.runs.proofs.Skipping.{skip_kept, skip_reads, skip_taken_up, skip_at_end, skip_only_there}
-
--- moments told one after the other, from one state to another
-pub data Told (lends : Bool) (s : State) : List Moment → State → Type 0 where
-  none_yet : Told lends s [] s
-  told_more : {h : List Moment} {t u : State} (m : Moment) → Told lends s h t → Logged lends t m u → Told lends s (h ++ (m ∷ [])) u
 
 -- ---- what is kept
 
@@ -51,13 +46,13 @@ count_last : (n : ℕ) (h : List Moment) (m : Moment) → count_after n (h ++ (m
 count_last n [] m = refl
 count_last n (x ∷ h) m = count_last x.count h m
 
-kept_all : {lends : Bool} {v : View} {h : List Moment} {t : State} → Sound lends v → Told lends (fresh v) h t → Kept lends v h t
-kept_all {lends} {v} sound none_yet = kept_first lends v
-kept_all sound (told_more m told l) = kept_on sound (kept_all sound told) m l
+kept_all : {lends : Bool} {v : View} {h : List Moment} {t : State} → Sound lends v → CallsMade lends (fresh v) h t → Kept lends v h t
+kept_all {lends} {v} sound none_made = kept_first lends v
+kept_all sound (one_more m told l) = kept_on sound (kept_all sound told) m l
 
-count_told : {lends : Bool} {v : View} {h : List Moment} {t : State} → Told lends (fresh v) h t → t.body.reader.count ≡ count_after v.count h
-count_told none_yet = refl
-count_told {v = v} (told_more {h = h} m told l) = sym l.counts ∙ sym (count_last v.count h m)
+count_told : {lends : Bool} {v : View} {h : List Moment} {t : State} → CallsMade lends (fresh v) h t → t.body.reader.count ≡ count_after v.count h
+count_told none_made = refl
+count_told {v = v} (one_more {h = h} m told l) = sym l.counts ∙ sym (count_last v.count h m)
 
 -- ---- what holds of one call
 
@@ -166,7 +161,7 @@ goes_on {lends} {v} {h} {s} {t} k y on m l = record {
 -- what was told up to a place in the list, and the moment that follows there
 record Until (lends : Bool) (s : State) (g k : List Moment) : Type 0 where
   state : State
-  told : Told lends s g state
+  told : CallsMade lends s g state
   next : (m : Moment) (l : List Moment) → k ≡ m ∷ l → (t : State) × Logged lends state m t
 
 -- a list is empty or has a last
@@ -178,33 +173,33 @@ last_of (x ∷ k) = go (last_of k)
     go (inl e) = inr ([], x, ap (λ k. x ∷ k) e)
     go (inr (l, m, e)) = inr (x ∷ l, m, ap (λ k. x ∷ k) e)
 
-until : {lends : Bool} {s t : State} {all : List Moment} → Told lends s all t → (g k : List Moment) → all ≡ g ++ k → Until lends s g k
-until none_yet [] k e = record { state = _; told = none_yet; next = λ m l is. absurd (cc) }
-until none_yet (x ∷ g) k e = absurd (cc)
-until {lends} {s} {t = u} (told_more {h = h} {t = t} n told logged) g k e = go (λ l same. until told g l same) (last_of k)
+until : {lends : Bool} {s t : State} {all : List Moment} → CallsMade lends s all t → (g k : List Moment) → all ≡ g ++ k → Until lends s g k
+until none_made [] k e = record { state = _; told = none_made; next = λ m l is. absurd (cc) }
+until none_made (x ∷ g) k e = absurd (cc)
+until {lends} {s} {t = u} (one_more {h = h} {t = t} n told logged) g k e = go (λ l same. until told g l same) (last_of k)
   where
     inside : (l : List Moment) → h ≡ g ++ l → Until lends s g l → k ≡ l ++ (n ∷ []) → Until lends s g k
     inside [] same before is = record {
       state = t;
-      told = subst (λ g. Told lends s g t) (same ∙ append-nil g) told;
+      told = subst (λ g. CallsMade lends s g t) (same ∙ append-nil g) told;
       next = λ m l are. let first : n ≡ m = cc in (u, subst (λ m. Logged lends t m u) first logged);
     }
     inside (x ∷ l) same before is = record { state = before.state; told = before.told; next = λ m r are. let first : x ≡ m = cc in before.next m l (ap (λ x. x ∷ l) first) }
 
     go : ((l : List Moment) → h ≡ g ++ l → Until lends s g l) → (k ≡ []) ⊎ ((l : List Moment) × (m : Moment) × (k ≡ l ++ (m ∷ []))) → Until lends s g k
-    go before (inl none) = record { state = u; told = subst (λ g. Told lends s g u) (e ∙ ap (λ k. g ++ k) none ∙ append-nil g) (told_more n told logged); next = λ m l is. absurd (cc) }
+    go before (inl none) = record { state = u; told = subst (λ g. CallsMade lends s g u) (e ∙ ap (λ k. g ++ k) none ∙ append-nil g) (one_more n told logged); next = λ m l is. absurd (cc) }
     go before (inr (l, m, is)) =
         let (same, lasts) = last_same h (g ++ l) (e ∙ ap (λ k. g ++ k) is ∙ sym (append_assoc g l (m ∷ []))) in
         inside l same (before l same) (is ∙ ap (λ m. l ++ (m ∷ [])) (sym lasts))
 
-told_last : {lends : Bool} {s u : State} {all : List Moment} → Told lends s all u → (h : List Moment) (m : Moment) → all ≡ h ++ (m ∷ []) → (t : State) × Told lends s h t × Logged lends t m u
-told_last none_yet [] m e = absurd (cc)
-told_last none_yet (x ∷ h) m e = absurd (cc)
-told_last {lends} {s} {u = u} (told_more {h = g} {t = t} n told logged) h m e =
+told_last : {lends : Bool} {s u : State} {all : List Moment} → CallsMade lends s all u → (h : List Moment) (m : Moment) → all ≡ h ++ (m ∷ []) → (t : State) × CallsMade lends s h t × Logged lends t m u
+told_last none_made [] m e = absurd (cc)
+told_last none_made (x ∷ h) m e = absurd (cc)
+told_last {lends} {s} {u = u} (one_more {h = g} {t = t} n told logged) h m e =
     let (same, lasts) = last_same g h e in
-    (t, subst (λ h. Told lends s h t) same told, subst (λ m. Logged lends t m u) lasts logged)
+    (t, subst (λ h. CallsMade lends s h t) same told, subst (λ m. Logged lends t m u) lasts logged)
 
-pub lawful : {lends : Bool} {v : View} {told : List Moment} {t : State} → Sound lends v → Told lends (fresh v) told t → Law lends v told
+pub lawful : {lends : Bool} {v : View} {told : List Moment} {t : State} → Sound lends v → CallsMade lends (fresh v) told t → Law lends v told
 lawful {lends} {v} sound all h m k e =
     let here = until all (h ++ (m ∷ [])) k (e ∙ sym (append_assoc h (m ∷ []) k)) in
     let (s, before, logged) = told_last here.told h m refl in

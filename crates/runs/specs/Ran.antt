@@ -3,7 +3,8 @@ use Rattle.std.specs.Prelude.{◌≡◌, Bool, List, [], ◌∷◌, ◌++◌, Ok
 use Rattle.read.specs.Reader.{View}
 use Rattle.de.specs.declared.entry.Call.{Call}
 use Rattle.de.specs.declared.entry.Entry.{Entry}
-use Rattle.de.specs.Made.{Moment, moment}
+use Rattle.de.specs.Calls.{State, fresh}
+use Rattle.de.specs.Made.{Moment, CallsMade, moment}
 use Rattle.runs.specs.Law.{Law, Begins}
 
 abbrev pub moments : List Entry → List Moment
@@ -24,4 +25,7 @@ pub record Ran {E : Type 0} (lends : Bool) (v : View) (calls : List Call) (old :
   pub told : List Entry
   pub logged : new ≡ old ++ told
   pub made : All r calls told
+  -- what the decoder held in the end: each call answered what it has to
+  pub left : State
+  pub answered : CallsMade lends (fresh v) (moments told) left
   pub lawful : Law lends v (moments told)

@@ -10,13 +10,13 @@ use Rattle.de.specs.declared.entry.Answer.{Answer}
 use Rattle.de.specs.declared.entry.Answer.TheVariants as answer
 use Rattle.de.specs.Steps.{Body, Out, gives, stops, step}
 use Rattle.de.specs.Calls.{State, Answered, gave, told, cut, Meets, next_by, next_turn, next_call, next_puts, tally, unless_latched}
-use Rattle.de.specs.Made.{Moment, AsTold, NextAnswer, Logged}
+use Rattle.de.specs.Made.{Moment, AsTold, NextAnswer, Logged, CallsMade, none_made, one_more}
 use Rattle.de.proofs.Falling.{left, step_falls}
 use Rattle.survey.specs.declared.slot.Slot.{Slot}
 use Rattle.survey.specs.Slots.{slot_of, laid}
 use Rattle.survey.specs.Inside.{EventInside, EventsInside, BodyInside}
 use Rattle.survey.proofs.Inside.{StepInside, step_inside}
-use Rattle.survey.specs.Surveys.{Calls, no_more, then_one, Gives, GaveNone, Drawn}
+use Rattle.survey.specs.Surveys.{Gives, GaveNone, Drawn}
 
 -- ---- one call
 
@@ -111,14 +111,14 @@ pub record Going (s : State) (old : List Slot) (t : State) (new : List Slot) (fi
   pub told : List Moment
   pub events : List Event
   pub gives : Gives told events
-  pub calls : Calls s told t
+  pub calls : CallsMade true s told t
   pub slots : new ≡ laid events old
   pub inside : (size : ℕ) → BodyInside size s.body → EventsInside size events × BodyInside size t.body
   pub filled_most : filled ≡ min (length events) (length old)
 
 module _ {s : State} {old : List Slot} where
   pub going_first : Going s old s old 0
-  going_first = record { told = []; events = []; gives = tt; calls = no_more; slots = refl; inside = λ size h. (tt, h); filled_most = omega arith }
+  going_first = record { told = []; events = []; gives = tt; calls = none_made; slots = refl; inside = λ size h. (tt, h); filled_most = omega arith }
 
   more : {t u : State} {new last : List Slot} {n k : ℕ} (e : Event) (g : Going s old t new n) → Meets (next_call true 0 t) (Ok (Some e)) u → last ≡ laid (g.events ++ (e ∷ [])) old →
       k ≡ min (length (g.events ++ (e ∷ []))) (length old) →
@@ -127,7 +127,7 @@ module _ {s : State} {old : List Slot} where
     told = g.told ++ (next_moment t u (answer.Gave e) ∷ []);
     events = g.events ++ (e ∷ []);
     gives = gives_more g.told g.events _ e g.gives refl refl;
-    calls = then_one (next_moment t u (answer.Gave e)) g.calls (next_logged (Ok (Some e)) meets refl);
+    calls = one_more (next_moment t u (answer.Gave e)) g.calls (next_logged (Ok (Some e)) meets refl);
     slots = put;
     inside = λ size h. let (all, held) = g.inside size h in let (one, then) = next_inside size t u e meets held in (inside_more size g.events e all one, then);
     filled_most = filled;
@@ -157,7 +157,7 @@ module _ {s : State} {old : List Slot} where
     last = next_moment t u a;
     gives = g.gives;
     gives_none = record { next = refl; none = none };
-    calls = then_one (next_moment t u a) g.calls logged;
+    calls = one_more (next_moment t u a) g.calls logged;
     slots = g.slots;
     inside = λ size h. (g.inside size h).0;
   }

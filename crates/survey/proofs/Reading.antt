@@ -17,16 +17,16 @@ use Rattle.de.specs.declared.entry.Call.TheVariants as call
 use Rattle.de.specs.declared.entry.Answer.{Answer}
 use Rattle.de.specs.declared.entry.Answer.TheVariants as answer
 use Rattle.de.specs.Calls.{State, fresh, gave as gives_answer, told, Meets, open_by, open_turn, unless_latched, open_call, here, shut, refusing, finished, close_by, owns, close_own, close_call, tally}
-use Rattle.de.specs.Made.{Moment, OpenAnswer, CloseAnswer, Logged, token}
+use Rattle.de.specs.Made.{Moment, OpenAnswer, CloseAnswer, Logged, CallsMade, none_made, one_more, token}
 use Rattle.runs.specs.Law.{Law}
-use Rattle.runs.proofs.Lawful.{Told, none_yet, told_more, lawful}
+use Rattle.runs.proofs.Lawful.{lawful}
 use Rattle.survey.specs.declared.slot.Slot.{Slot}
 use Rattle.survey.specs.declared.verdict.Verdict.{Verdict}
 use Rattle.survey.specs.Verdicts.{acceptance, refusal_verdict}
 use Rattle.survey.specs.Inside.{Fits, BodyInside}
 use Rattle.de.proofs.Got.{IfGot, gave, refused}
 use Rattle.survey.proofs.Inside.{Gives, header_fits}
-use Rattle.survey.specs.Surveys.{table_view, Calls, no_more, then_one, Drawn, not_opened, to_the_end, Answers, ReadOut, Judged, Surveyed}
+use Rattle.survey.specs.Surveys.{table_view, Drawn, not_opened, to_the_end, Answers, ReadOut, Judged, Surveyed}
 use Rattle.survey.proofs.Drawing.{as_told}
 
 -- a call that leaves no text, seen from outside
@@ -86,9 +86,9 @@ close_whole p k s t meets = by_pdu s.pdu meets
     by_pdu None (comes, same) = absurd (cc)
     by_pdu (Some e) meets = by_owner e (owns p e) refl meets
 
-calls_append : {s t u : State} {h k : List Moment} → Calls s h t → Calls t k u → Calls s (h ++ k) u
-calls_append {s} {t} {h = h} c no_more = subst (λ h. Calls s h t) (sym (append-nil h)) c
-calls_append {s} {u = u} {h = h} c (then_one {h = k} m d l) = subst (λ h. Calls s h u) (append_assoc h k (m ∷ [])) (then_one m (calls_append c d) l)
+calls_append : {s t u : State} {h k : List Moment} → CallsMade true s h t → CallsMade true t k u → CallsMade true s (h ++ k) u
+calls_append {s} {t} {h = h} c none_made = subst (λ h. CallsMade true s h t) (sym (append-nil h)) c
+calls_append {s} {u = u} {h = h} c (one_more {h = k} m d l) = subst (λ h. CallsMade true s h u) (append_assoc h k (m ∷ [])) (one_more m (calls_append c d) l)
 
 -- a PDU that was opened lies in the table
 opened_inside : (size : ℕ) (s a : State) (p : PduInfo) → Meets (open_call true s) (Ok p) a → Fits size s.body.reader → BodyInside size a.body
@@ -114,7 +114,7 @@ refused_at_once {t = t} r f meets is = record {
   events = [];
   last = moment_of call.Open (answer.Refused f) t;
   reads = not_opened (moment_of call.Open (answer.Refused f) t) refl (f, refl);
-  calls = then_one (moment_of call.Open (answer.Refused f) t) no_more (open_logged (Err r) meets (as_told is));
+  calls = one_more (moment_of call.Open (answer.Refused f) t) none_made (open_logged (Err r) meets (as_told is));
   answers = refl;
   count = refl;
   counted = refl;
@@ -132,7 +132,7 @@ module _ {s a b t : State} {old new : List Slot} (p : PduInfo) (opened : Meets (
     events = d.events;
     last = n;
     reads = to_the_end (opened_at p a) d.told d.events d.last n refl refl d.gives d.gives_none refl whole;
-    calls = subst (λ h. Calls s (opened_at p a ∷ h) t) (append_assoc d.told (d.last ∷ []) (n ∷ [])) (then_one n (calls_append (then_one (opened_at p a) no_more (open_logged (Ok p) opened refl)) d.calls) logged);
+    calls = subst (λ h. CallsMade true s (opened_at p a ∷ h) t) (append_assoc d.told (d.last ∷ []) (n ∷ [])) (one_more n (calls_append (one_more (opened_at p a) none_made (open_logged (Ok p) opened refl)) d.calls) logged);
     answers = answers;
     count = refl;
     counted = refl;
@@ -151,12 +151,8 @@ module _ {s a b t : State} {old new : List Slot} (p : PduInfo) (opened : Meets (
 
 -- ---- the law
 
-told_of : {s t : State} {h : List Moment} → Calls s h t → Told true s h t
-told_of no_more = none_yet
-told_of (then_one m c l) = told_more m (told_of c) l
-
-pub calls_lawful : {v : View} {t : State} {h : List Moment} → Sound true v → Calls (fresh v) h t → Law true v h
-calls_lawful sound c = lawful sound (told_of c)
+pub calls_lawful : {v : View} {t : State} {h : List Moment} → Sound true v → CallsMade true (fresh v) h t → Law true v h
+calls_lawful sound c = lawful sound c
 
 -- a new decoder over a table
 pub new_over : {s : State} (r : SliceRead) (table : List ℕ) → r.slice.now ≡ table → r.index ≡ 0 → r.peeked ≡ false → s ≡ fresh (slice_view r) → (s ≡ fresh (table_view table)) × Sound true (table_view table)
@@ -185,8 +181,8 @@ surveyed {table = table} {s = s} {t = t} {r = r} {v = v} {events = events} {take
   inside = d.inside (length table) (subst (λ (s : State). Fits (length table) s.body.reader) (sym new) (omega arith));
 }
   where
-    made : Calls (fresh (table_view table)) d.told t
-    made = subst (λ s. Calls s d.told t) new d.calls
+    made : CallsMade true (fresh (table_view table)) d.told t
+    made = subst (λ s. CallsMade true s d.told t) new d.calls
 
     judged : (r : Result Closed Refusal) → Answers r d.last.answer → v ≡ verdict_of r d.last.events d.last.count → Judged d.last.answer d.last v
     judged (Ok k) answers is = subst (λ a. Judged a d.last v) (sym answers) is

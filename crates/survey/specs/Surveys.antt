@@ -9,7 +9,7 @@ use Rattle.de.specs.declared.entry.Call.TheVariants as call
 use Rattle.de.specs.declared.entry.Answer.{Answer}
 use Rattle.de.specs.declared.entry.Answer.TheVariants as answer
 use Rattle.de.specs.Calls.{State, fresh, tally}
-use Rattle.de.specs.Made.{Moment, Logged}
+use Rattle.de.specs.Made.{Moment, CallsMade}
 use Rattle.runs.specs.Law.{Law, Refuses}
 use Rattle.survey.specs.declared.slot.Slot.{Slot}
 use Rattle.survey.specs.declared.verdict.Verdict.{Verdict}
@@ -20,11 +20,6 @@ use Rattle.survey.specs.Verdicts.{acceptance, refusal_verdict}
 -- a reader over a table that lends its bytes, of which nothing was asked
 abbrev pub table_view : List ℕ → View
 table_view xs = record { coming = xs; ending = None; count = 0; stop = None; peeked = false; kept = [] }
-
--- these calls were made one after the other, from one state to another
-pub data Calls (s : State) : List Moment → State → Type 0 where
-  no_more : Calls s [] s
-  then_one : {h : List Moment} {t u : State} (m : Moment) → Calls s h t → Logged true t m u → Calls s (h ++ (m ∷ [])) u
 
 -- each of these calls is a next that gave the event of its place
 abbrev pub Gives : List Moment → List Event → Type 0
@@ -49,7 +44,7 @@ pub record Drawn (s : State) (old : List Slot) (t : State) (new : List Slot) : T
   pub last : Moment
   pub gives : Gives told events
   pub gives_none : GivesNone last
-  pub calls : Calls s (told ++ (last ∷ [])) t
+  pub calls : CallsMade true s (told ++ (last ∷ [])) t
   pub slots : new ≡ laid events old
   pub inside : (size : ℕ) → BodyInside size s.body → EventsInside size events
 
@@ -71,7 +66,7 @@ pub record ReadOut (s : State) (old : List Slot) (r : Result Closed Refusal) (t 
   pub events : List Event
   pub last : Moment
   pub reads : Reads told events last
-  pub calls : Calls s told t
+  pub calls : CallsMade true s told t
   pub answers : Answers r last.answer
   pub count : last.count ≡ t.body.reader.count
   pub counted : last.events ≡ (tally t).0
@@ -92,7 +87,7 @@ pub record Surveyed (table : List ℕ) (old : List Slot) (v : Verdict) (new : Li
   pub reads : Reads told events last
   -- what the decoder held in the end
   pub left : State
-  pub calls : Calls (fresh (table_view table)) told left
+  pub calls : CallsMade true (fresh (table_view table)) told left
   pub lawful : Law true (table_view table) told
   pub judged : Judged last.answer last v
   pub slots : new ≡ laid events old
