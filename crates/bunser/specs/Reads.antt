@@ -3,7 +3,6 @@ use Rattle.std.specs.Prelude.{ℕ, ◌+◌, Bool, cond, ◌&&◌, List, [], leng
 use Rattle.read.specs.declared.Taken.{Taken}
 use Rattle.read.specs.declared.Taken.TheVariants.{Lent, Copied}
 use Rattle.read.specs.Reader.{View, past, held, advanced, discarded, lies, lent_part}
-use Rattle.format.specs.declared.tags.TheConstants.{FARTHEST}
 use Rattle.format.specs.Integers.{width_of, bytes_of, little_endian, twos_complement}
 use Rattle.format.specs.declared.width.Width.{Width}
 use Rattle.format.specs.declared.refusal.ReadError.{ReadError}
@@ -109,7 +108,7 @@ capabilities_read lends end v = placed v.count (flags_read lends end v)
 
 -- the body begins here, and ends by 2 ^ 60
 abbrev pub bounded : ℕ → ℕ → ℕ → View → Outcome Refusal Header
-bounded p caps n v = cond (past (Some FARTHEST) (v.count + n)) (bad (at TooLong p) v) (got (record { capabilities = caps; start = v.count; length = n }) v)
+bounded p caps n v = cond (past (Some 1152921504606846976) (v.count + n)) (bad (at TooLong p) v) (got (record { capabilities = caps; start = v.count; length = n }) v)
 
 unfoldable pub length_read : Bool → Option ℕ → ℕ → View → Outcome Refusal Header
 length_read lends end caps v = and_then (placed v.count (count_read lends end v)) (bounded v.count caps)

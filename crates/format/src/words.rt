@@ -1,8 +1,13 @@
 //! Refusals in words that can be read to a customer over the telephone.
+ghost use Rattle.std.specs.Prelude.{Some};
+ghost use Rattle.format.specs.Words.{kind_words, layer_words, error_words, cause_words, refusal_words};
+
 use super::refusal::*;
 use std::fmt;
 
 impl fmt::Display for Kind {
+    ghost output = { λ kind. Some (kind_words kind) };
+
     fn fmt<W: fmt::Write>(&self, f: &mut fmt::Formatter<W>) -> fmt::Result {
         f.write_str(match self {
             Kind::Integer => "a whole number",
@@ -15,6 +20,8 @@ impl fmt::Display for Kind {
 }
 
 impl fmt::Display for Layer {
+    ghost output = { λ layer. Some (layer_words layer) };
+
     fn fmt<W: fmt::Write>(&self, f: &mut fmt::Formatter<W>) -> fmt::Result {
         f.write_str(match self {
             Layer::Source => "source",
@@ -25,6 +32,8 @@ impl fmt::Display for Layer {
 }
 
 impl fmt::Display for ReadError {
+    ghost output = { λ error. Some (error_words error) };
+
     fn fmt<W: fmt::Write>(&self, f: &mut fmt::Formatter<W>) -> fmt::Result {
         match self {
             ReadError::End => f.write_str("the data run past the end that the table declares"),
@@ -54,6 +63,8 @@ impl fmt::Display for ReadError {
 }
 
 impl fmt::Display for Cause {
+    ghost output = { λ cause. Some (cause_words cause) };
+
     fn fmt<W: fmt::Write>(&self, f: &mut fmt::Formatter<W>) -> fmt::Result {
         match self {
             Cause::OutOfTurn => f.write_str(
@@ -76,6 +87,8 @@ impl fmt::Display for Cause {
 }
 
 impl fmt::Display for Refusal {
+    ghost output = { λ refusal. Some (refusal_words refusal) };
+
     fn fmt<W: fmt::Write>(&self, f: &mut fmt::Formatter<W>) -> fmt::Result {
         write!(
             f,

@@ -5,12 +5,11 @@ use Rattle.source.specs.Bytes.{Octets}
 use Rattle.source.specs.Feed.{Feed}
 use Rattle.source.specs.Feed as feed
 use Rattle.source.specs.Sound.{octets_none, octets_append}
-use Rattle.read.specs.declared.io.TheConstants.{STOP}
 use Rattle.read.specs.Reader.{View, Sound, fenced}
 
--- a source, with a byte held back or none
+-- a source, with a byte held back or none, and a stop at 2 ^ 60 + 16
 abbrev pub io_view : Feed → Option ℕ → ℕ → View
-io_view f o n = record { coming = option_to_list o ++ f.bytes; ending = f.ending; count = n; stop = Some STOP; peeked = is_some o; kept = [] }
+io_view f o n = record { coming = option_to_list o ++ f.bytes; ending = f.ending; count = n; stop = Some 1152921504606846992; peeked = is_some o; kept = [] }
 
 held_first : (o : Option ℕ) (xs : List ℕ) → is_some o ≡ true → 1 ≤ length (option_to_list o ++ xs)
 held_first (Some b) xs e = omega arith

@@ -1,7 +1,7 @@
 //! Well-formed UTF-8, by Table 3-7 of the Unicode Standard.
 #![tactic(auto)]
 
-ghost use Rattle.std.specs.Prelude.{◌≡◌, ℕ, ◌+◌, ◌-◌, ◌<◌, ◌≤◌, false, ◌&&◌, List, ◌++◌, length, drop, IfSome, IsSomeAnd, MatchOption};
+ghost use Rattle.std.specs.Prelude.{◌≡◌, ℕ, ◌+◌, ◌-◌, ◌≤◌, false, ◌&&◌, List, ◌++◌, length, drop, IfSome, MatchOption};
 ghost use Rattle.std.specs.List.{list_all};
 ghost use Rattle.utf8.specs.Utf8.{utf8, utf8_after, within, first, announced, allows};
 
@@ -44,14 +44,14 @@ fn all_continue(bytes: &[u8]) -> bool
     bytes.iter().all(|byte| continues(*byte))
 }
 
-// Whether this byte may stand behind a first byte that announces more than one.
+// Whether this byte may stand behind that first byte.
 fn may_follow(lead: u8, byte: u8) -> bool
-    requires { IsSomeAnd (announced lead) (λ n. 1 < n) }
     ensures { result ≡ allows (first lead) byte }
 {
     match behind_first(lead) {
+        Awaited::Character => true,
         Awaited::Range { low, high, .. } => (low..=high).contains(&byte),
-        _ => false,
+        Awaited::Nothing => false,
     }
 }
 
