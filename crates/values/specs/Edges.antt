@@ -1,0 +1,80 @@
+-- Worked examples at the edges: what is still well formed or within the limits, and what is no more.
+use Rattle.std.specs.Prelude.{◌≡◌, ℕ, ◌-◌, ◌^◌, [], ◌∷◌, pos, negsuc}
+use Rattle.format.specs.declared.width.Width.TheVariants.{W8, W16}
+use Rattle.values.specs.Values.{Value, Key, as_text, null, integer, real, bytes, text, array, object, template, no_values, value, no_pairs, pair, no_rows, row, no_cells, gap, cell, encoding, key_encoding, events, some_text, Formed, KeyFormed}
+use Rattle.values.specs.Limits.{Limits, lending, copying, Within}
+use Rattle.values.specs.Examples.{named, cp, overlong, no_table}
+
+-- the key "k" as a text, with its length in two bytes
+abbrev pub text_key : Key
+text_key = record { tag = as_text; width = W16; name = 0x6b ∷ [] }
+
+abbrev pub empty : Value
+empty = array W8 no_values
+
+-- two values, one behind the other
+abbrev pub both : Value → Value → Value
+both v w = array W8 (value v (value w no_values))
+
+abbrev pub in_object : Value → Value
+in_object v = object W8 (pair (named cp) v no_pairs)
+
+-- a template with a key of two bytes, and one row of this cell
+abbrev pub in_row : Value → Value
+in_row v = template W8 (named cp ∷ []) W8 (row (cell v no_cells) no_rows)
+
+-- where so many levels, keys and key bytes are taken
+abbrev pub AtLimits : Limits → Type 0
+AtLimits L = record {
+  array_level : Within empty L 127 0 0;
+  no_array_level : Within empty L 128 0 0 → ⊥;
+  object_level : Within (object W8 no_pairs) L 127 0 0;
+  no_object_level : Within (object W8 no_pairs) L 128 0 0 → ⊥;
+  -- values that stand beside one another take the same level
+  inner_level : Within (both empty empty) L 126 0 0;
+  no_inner_level : Within (both null empty) L 127 0 0 → ⊥;
+  pair_level : Within (in_object empty) L 126 0 0;
+  no_pair_level : Within (in_object empty) L 127 0 0 → ⊥;
+  -- the list of a template's keys takes a level, and gives it back before the rows
+  list_level : Within no_table L 126 0 0;
+  no_list_level : Within no_table L 127 0 0 → ⊥;
+  cell_level : Within (in_row empty) L 126 0 0;
+  no_cell_level : Within (in_row (both null empty)) L 126 0 0 → ⊥;
+  key : Within (in_row null) L 0 255 0;
+  no_key : Within (in_row null) L 0 256 0 → ⊥;
+  inner_key : Within (in_row (in_row null)) L 0 254 0;
+  no_inner_key : Within (in_row (in_row null)) L 0 255 0 → ⊥;
+  -- a template that has ended holds no keys
+  key_again : Within (both (in_row null) (in_row null)) L 0 255 0;
+  no_rows_no_keys : Within no_table L 0 0 0;
+  row_no_keys : Within (template W8 [] W8 (row no_cells no_rows)) L 0 0 0 → ⊥;
+}
+
+abbrev pub Edges : Type 0
+Edges = record {
+  text_bytes : encoding (text W8 (0x61 ∷ [])) ≡ 0x0d ∷ 0x03 ∷ 0x01 ∷ 0x61 ∷ [];
+  text_events : events (text W8 (0x61 ∷ [])) ≡ some_text (0x61 ∷ []) ∷ [];
+  text_key_bytes : key_encoding text_key ≡ 0x0d ∷ 0x04 ∷ 0x01 ∷ 0x00 ∷ 0x6b ∷ [];
+  widths_of_counts : encoding (template W16 [] W8 no_rows) ≡ 0x0b ∷ 0x00 ∷ 0x04 ∷ 0x00 ∷ 0x00 ∷ 0x03 ∷ 0x00 ∷ [];
+  byte_most : Formed (bytes W8 (255 ∷ []));
+  byte_beyond : Formed (bytes W8 (256 ∷ [])) → ⊥;
+  most : Formed (integer W8 (pos 127));
+  more : Formed (integer W8 (pos 128)) → ⊥;
+  least : Formed (integer W8 (negsuc 127));
+  less : Formed (integer W8 (negsuc 128)) → ⊥;
+  real_most : Formed (real (2 ^ 64 - 1));
+  real_beyond : Formed (real (2 ^ 64)) → ⊥;
+  key_no_text : KeyFormed (named overlong) → ⊥;
+  -- a row has a cell for each key
+  row_short : Formed (template W8 (named cp ∷ []) W8 (row no_cells no_rows)) → ⊥;
+  row_long : Formed (template W8 [] W8 (row (gap no_cells) no_rows)) → ⊥;
+  lending_limits : AtLimits lending;
+  copying_limits : AtLimits copying;
+  -- a key that is lent takes no bytes
+  lent_bytes : (n : ℕ) → Within (in_row null) lending 0 0 n;
+  key_bytes : Within (in_row null) copying 0 0 4094;
+  no_key_bytes : Within (in_row null) copying 0 0 4095 → ⊥;
+  inner_key_bytes : Within (in_row (in_row null)) copying 0 0 4092;
+  no_inner_key_bytes : Within (in_row (in_row null)) copying 0 0 4093 → ⊥;
+  key_bytes_again : Within (both (in_row null) (in_row null)) copying 0 0 4094;
+}
