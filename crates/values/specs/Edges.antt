@@ -1,13 +1,26 @@
 -- Worked examples at the edges: what is still well formed or within the limits, and what is no more.
-use Rattle.std.specs.Prelude.{◌≡◌, ℕ, ◌-◌, ◌^◌, [], ◌∷◌, pos, negsuc}
+use Rattle.std.specs.Prelude.{◌≡◌, ℕ, zero, suc, ◌-◌, ◌^◌, [], ◌∷◌, replicate, pos, negsuc}
 use Rattle.format.specs.declared.width.Width.TheVariants.{W8, W16}
-use Rattle.values.specs.Values.{Value, Key, as_text, null, integer, real, bytes, text, array, object, template, no_values, value, no_pairs, pair, no_rows, row, no_cells, gap, cell, encoding, key_encoding, events, some_text, Formed, KeyFormed}
+use Rattle.values.specs.Values.{Value, Values, Pairs, Rows, Key, as_text, null, yes_value, integer, real, bytes, text, array, object, template, no_values, value, no_pairs, pair, no_rows, row, no_cells, gap, cell, encoding, key_encoding, events, map_begin, map_end, key, some_text, is_true, is_null, Formed, KeyFormed}
 use Rattle.values.specs.Limits.{Limits, lending, copying, Within}
 use Rattle.values.specs.Examples.{named, cp, overlong, no_table}
 
 -- the key "k" as a text, with its length in two bytes
 abbrev pub text_key : Key
 text_key = record { tag = as_text; width = W16; name = 0x6b ∷ [] }
+
+-- so many nulls, rows without cells, or pairs
+abbrev pub nulls : ℕ → Values
+nulls zero = no_values
+nulls (suc n) = value null (nulls n)
+
+abbrev pub bare_rows : ℕ → Rows
+bare_rows zero = no_rows
+bare_rows (suc n) = row no_cells (bare_rows n)
+
+abbrev pub null_pairs : ℕ → Pairs
+null_pairs zero = no_pairs
+null_pairs (suc n) = pair (named cp) null (null_pairs n)
 
 abbrev pub empty : Value
 empty = array W8 no_values
@@ -56,6 +69,9 @@ Edges = record {
   text_events : events (text W8 (0x61 ∷ [])) ≡ some_text (0x61 ∷ []) ∷ [];
   text_key_bytes : key_encoding text_key ≡ 0x0d ∷ 0x04 ∷ 0x01 ∷ 0x00 ∷ 0x6b ∷ [];
   widths_of_counts : encoding (template W16 [] W8 no_rows) ≡ 0x0b ∷ 0x00 ∷ 0x04 ∷ 0x00 ∷ 0x00 ∷ 0x03 ∷ 0x00 ∷ [];
+  pairs_bytes : encoding (object W8 (pair (named cp) null (pair text_key yes_value no_pairs)))
+      ≡ 0x01 ∷ 0x03 ∷ 0x02 ∷ 0x02 ∷ 0x03 ∷ 0x02 ∷ 0x63 ∷ 0x70 ∷ 0x0a ∷ 0x0d ∷ 0x04 ∷ 0x01 ∷ 0x00 ∷ 0x6b ∷ 0x08 ∷ [];
+  pairs_events : events (object W8 (pair (named cp) null (pair text_key yes_value no_pairs))) ≡ map_begin ∷ key cp ∷ is_null ∷ key (0x6b ∷ []) ∷ is_true ∷ map_end ∷ [];
   byte_most : Formed (bytes W8 (255 ∷ []));
   byte_beyond : Formed (bytes W8 (256 ∷ [])) → ⊥;
   most : Formed (integer W8 (pos 127));
@@ -65,6 +81,16 @@ Edges = record {
   real_most : Formed (real (2 ^ 64 - 1));
   real_beyond : Formed (real (2 ^ 64)) → ⊥;
   key_no_text : KeyFormed (named overlong) → ⊥;
+  -- counts and lengths fit their widths
+  array_most : Formed (array W8 (nulls 127));
+  array_long : Formed (array W8 (nulls 128)) → ⊥;
+  object_long : Formed (object W8 (null_pairs 128)) → ⊥;
+  bytes_long : Formed (bytes W8 (replicate 128 0)) → ⊥;
+  text_long : Formed (text W8 (replicate 128 0x61)) → ⊥;
+  key_long : KeyFormed (named (replicate 128 0x61)) → ⊥;
+  keys_long : Formed (template W8 (replicate 128 (named cp)) W16 no_rows) → ⊥;
+  rows_long : Formed (template W16 [] W8 (bare_rows 128)) → ⊥;
+  rows_wide : Formed (template W8 [] W16 (bare_rows 128));
   -- a row has a cell for each key
   row_short : Formed (template W8 (named cp ∷ []) W8 (row no_cells no_rows)) → ⊥;
   row_long : Formed (template W8 [] W8 (row (gap no_cells) no_rows)) → ⊥;
