@@ -3,6 +3,7 @@ use Rattle.std.specs.Prelude.{ℕ, Bool, true, false, List, [], ◌∷◌}
 use Rattle.read.specs.Reader.{View}
 use Rattle.read.specs.declared.Taken.{Taken}
 use Rattle.read.specs.declared.Taken.TheVariants.{Lent, Copied}
+use Rattle.format.specs.declared.refusal.Kind.TheVariants as kind
 use Rattle.format.specs.declared.refusal.ReadError.TheVariants as error
 use Rattle.format.specs.declared.refusal.Cause.{Cause}
 use Rattle.format.specs.declared.refusal.Cause.TheVariants as cause
@@ -127,6 +128,20 @@ bytes_opened = told call.Open (answer.Opened (record { capabilities = 0; start =
 abbrev pub gave_bytes : ℕ → Taken → List Moment
 gave_bytes room t = bytes_opened ∷ told (call.Next room) (answer.Gave (event.Bytes (record { taken = t; len = 1 }))) 12 1 4 ∷ []
 
+-- a PDU whose body begins an array of three, with two nulls, and then a byte that begins no value
+abbrev pub three_pdu : View
+three_pdu = slice (pdu (0x00 ∷ 0x03 ∷ 0x03 ∷ 0x0a ∷ 0x0a ∷ 0x0e ∷ []))
+
+abbrev pub three_opened : Moment
+three_opened = told call.Open (answer.Opened (record { capabilities = 0; start = 8; length = 6 })) 8 0 0
+
+abbrev pub three_begun : Moment
+three_begun = told (call.Next 0) (answer.Gave event.ArrayBegin) 11 1 3
+
+-- a skip that went on over both
+abbrev pub two_skipped : Moment
+two_skipped = told call.Skip (refused (cause.Read (error.Byte kind.NextItem 0x0e)) 13) 13 3 5
+
 abbrev pub LawExamples : Type 0
 LawExamples = record {
   rules_out : (lends : Bool) → RulesOut lends;
@@ -137,4 +152,6 @@ LawExamples = record {
   room_wanting : Unlawful false bytes_pdu (gave_bytes 0 Copied);
   -- a byte is at most four events
   few_events : (lends : Bool) → Unlawful lends null_pdu five_begun;
+  -- a skip of one value goes not beyond it, refused or not
+  beyond_value : (lends : Bool) → Unlawful lends three_pdu (three_opened ∷ three_begun ∷ two_skipped ∷ []);
 }

@@ -1,5 +1,5 @@
 -- What the law rules out, each by the clause that it breaks.
-use Rattle.std.proofs.Common.{◌≡◌, ℕ, ◌+◌, ◌-◌, ◌*◌, ◌≤◌, take, Bool, true, false, inl, inr, List, [], ◌∷◌, ◌++◌, length, Some, None, refl, sym, ap, ◌∙◌, subst, arith}
+use Rattle.std.proofs.Common.{◌≡◌, ℕ, zero, suc, ◌+◌, ◌-◌, ◌*◌, ◌≤◌, take, Bool, true, false, inl, inr, List, [], ◌∷◌, ◌++◌, length, Some, None, refl, sym, ap, ◌∙◌, subst, arith}
 use Rattle.read.specs.Reader.{View}
 use Rattle.read.specs.declared.Taken.TheVariants.{Copied}
 use Rattle.format.specs.Numbers.{number_of}
@@ -7,17 +7,18 @@ use Rattle.format.specs.declared.width.Width.TheVariants.{W8, W16, W32, W64}
 use Rattle.format.specs.declared.refusal.Cause.{Cause}
 use Rattle.format.specs.declared.refusal.Cause.TheVariants as cause
 use Rattle.format.specs.declared.refusal.Refusal.{Refusal}
-use Rattle.values.specs.Values.{Value, Event, encoding, events, count_encoding, null, yes_value, no_value, integer, real, bytes, text, array, object, template, is_null, is_true, some_bytes, array_begin}
+use Rattle.values.specs.Values.{Value, Event, encoding, events, count_encoding, null, yes_value, no_value, integer, real, bytes, text, array, object, template, no_values, value, is_null, is_true, some_bytes, array_begin, array_end, Formed}
 use Rattle.bunser.specs.declared.Header.{Header}
 use Rattle.de.specs.declared.event.Event.{Event as GivenEvent}
 use Rattle.de.specs.declared.event.Event.TheVariants as event
 use Rattle.de.specs.declared.pdu.Extent.{Extent}
+use Rattle.de.specs.declared.entry.Call.TheVariants as call
 use Rattle.de.specs.declared.entry.Answer.TheVariants as answer
 use Rattle.de.specs.Made.{Moment}
 use Rattle.de.specs.Shown.{shown}
 use Rattle.runs.specs.Examples.{slice}
-use Rattle.runs.specs.Law.{Law, Lawful, Begins, from, all_bytes, Passed, opens, moves, Agrees, HandedOut, RefusedBy, ForGoodOrRoom, CloseAsked, HeaderAt, Declared, Whole, Ended, PduStory, Unclosed}
-use Rattle.runs.specs.Unlawful.{Unlawful, RulesOut, extent, refused, opened, gave, null_pdu, bytes_pdu, gave_bytes, begun, five_begun}
+use Rattle.runs.specs.Law.{Law, Lawful, Begins, from, all_bytes, Passed, opens, moves, Agrees, HandedOut, RefusedBy, RefusedAgrees, stretch, ForGoodOrRoom, CloseAsked, HeaderAt, Declared, Whole, Ended, PduStory, Unclosed}
+use Rattle.runs.specs.Unlawful.{three_pdu, three_opened, three_begun, two_skipped, Unlawful, RulesOut, extent, refused, opened, gave, null_pdu, bytes_pdu, gave_bytes, begun, five_begun}
 use Rattle.runs.proofs.Moments.{last_same}
 use Rattle.runs.proofs.law_examples_hold.Goals as goal
 
@@ -266,6 +267,68 @@ too_many lends law =
     next : List Event → List Event
     next es = es ++ (array_begin ∷ [])
 
+-- ---- a skip that goes on over two values
+
+-- what a refused skip has passed
+record SkipPassed (lends : Bool) (v : View) (h : List Moment) (f : Refusal) (es : List Event) (d : ℕ) : Type 0 where
+  before : List Event
+  more : List Event
+  at : ℕ
+  passed : Passed lends v h before at
+  all : es ≡ before ++ more
+  stretched : stretch 0 more ≡ length more
+  place : d ≤ f.place
+
+skip_passed : {lends : Bool} {v : View} {l : List Moment} {es : List Event} {d : ℕ} (h : List Moment) (m : Moment) (f : Refusal) → Passed lends v l es d → l ≡ h ++ (m ∷ []) → m.call ≡ call.Skip →
+    m.answer ≡ answer.Refused f → SkipPassed lends v h f es d
+skip_passed h m f (opens g n {k = j} a b) is skips answered =
+    let (same, lasts) = last_same g h is in
+    let z : answer.Opened j ≡ answer.Refused f = sym a ∙ ap (λ (m : Moment). m.answer) lasts ∙ answered in
+    absurd (cc)
+skip_passed {lends} {v} h m f (moves g n {es = es} {c = c} {d = d} more passed agrees) is skips answered =
+    let (same, lasts) = last_same g h is in
+    let by_answer : RefusedAgrees n.call f more c d = subst (λ a. Agrees lends v n a more c d) (ap (λ (m : Moment). m.answer) lasts ∙ answered) agrees in
+    let (stretched, after, place) = subst (λ q. RefusedAgrees q f more c d) (ap (λ (m : Moment). m.call) lasts ∙ skips) by_answer in
+    record { before = es; more = more; at = c; passed = subst (λ h. Passed lends v h es c) same passed; all = refl; stretched = stretched; place = place }
+
+abbrev three : Value
+three = array W8 (value null (value null (value null no_values)))
+
+three_formed : Formed three
+three_formed = (omega arith, (tt, (tt, (tt, tt))))
+
+three_begins : (n : ℕ) → n ≤ 5 → Begins (take n (from three_pdu 8)) (encoding three)
+unfolding count_encoding
+three_begins zero h = (_, refl)
+three_begins (suc zero) h = (_, refl)
+three_begins (suc (suc zero)) h = (_, refl)
+three_begins (suc (suc (suc zero))) h = (_, refl)
+three_begins (suc (suc (suc (suc zero)))) h = (_, refl)
+three_begins (suc (suc (suc (suc (suc zero))))) h = (_, refl)
+three_begins (suc (suc (suc (suc (suc (suc n)))))) h = absurd (omega arith)
+
+-- a null is a whole stretch
+one_null : (more rest behind : List Event) → length more ≡ 2 → is_null ∷ behind ≡ more ++ rest → stretch 0 more ≡ length more → ⊥
+one_null [] rest behind two is stretched = absurd (omega (arith, two))
+one_null (e ∷ more) rest behind two is stretched =
+    let first : is_null ≡ e = cc in
+    let h : Same 1 2 = ap (λ e. stretch 0 (e ∷ more)) first ∙ stretched ∙ two in
+    absurd (omega arith)
+
+beyond_value : (lends : Bool) → Unlawful lends three_pdu (three_opened ∷ three_begun ∷ two_skipped ∷ [])
+beyond_value lends law =
+    let y = (at_third law).story in
+    let s = skip_passed (three_opened ∷ three_begun ∷ []) two_skipped _ y.passed refl refl refl in
+    let (first, at) = one_event three_opened three_begun _ event.ArrayBegin s.passed refl refl in
+    let all : y.es ≡ array_begin ∷ s.more = s.all ∙ ap (λ es. es ++ s.more) first in
+    let counted : Same 3 (length y.es) = y.truthful.counted in
+    let long : Same 3 (suc (length s.more)) = counted ∙ ap length all in
+    let place : y.at ≤ 13 = s.place in
+    let (rest, begins) = y.truthful.every three three_formed (three_begins (y.at - 8) (omega arith)) in
+    let going_on : array_begin ∷ is_null ∷ is_null ∷ is_null ∷ array_end ∷ [] ≡ array_begin ∷ (s.more ++ rest) = begins ∙ ap (λ es. es ++ rest) all in
+    let behind : is_null ∷ is_null ∷ is_null ∷ array_end ∷ [] ≡ s.more ++ rest = cc in
+    one_null s.more rest _ (omega arith) behind s.stretched
+
 pub returns : goal.returns
 returns c = record {
   rules_out = rules_out;
@@ -273,4 +336,5 @@ returns c = record {
   lent_by_copying = λ law. (one_passed (_ ∷ []) _ _ (at_second law).story.passed refl refl).handed;
   room_wanting = no_room;
   few_events = too_many;
+  beyond_value = beyond_value;
 }
