@@ -1,6 +1,7 @@
 -- Worked examples at the edges: what is still well formed or within the limits, and what is no more.
 use Rattle.std.specs.Prelude.{◌≡◌, ℕ, zero, suc, ◌-◌, ◌^◌, [], ◌∷◌, replicate, pos, negsuc}
-use Rattle.format.specs.declared.width.Width.TheVariants.{W8, W16}
+use Rattle.format.specs.declared.width.Width.{Width}
+use Rattle.format.specs.declared.width.Width.TheVariants.{W8, W16, W32, W64}
 use Rattle.values.specs.Values.{Value, Values, Pairs, Rows, Key, as_text, null, yes_value, integer, real, bytes, text, array, object, template, no_values, value, no_pairs, pair, no_rows, row, no_cells, gap, cell, encoding, key_encoding, events, map_begin, map_end, key, some_text, is_true, is_null, Formed, KeyFormed}
 use Rattle.values.specs.Limits.{Limits, lending, copying, Within}
 use Rattle.values.specs.Examples.{named, cp, overlong, no_table}
@@ -8,6 +9,15 @@ use Rattle.values.specs.Examples.{named, cp, overlong, no_table}
 -- the key "k" as a text, with its length in two bytes
 abbrev pub text_key : Key
 text_key = record { tag = as_text; width = W16; name = 0x6b ∷ [] }
+
+-- the last number that fits, and the first that does not
+abbrev pub AtWidth : Width → ℕ → ℕ → Type 0
+AtWidth w n m = record {
+  most : Formed (integer w (pos n));
+  more : Formed (integer w (pos m)) → ⊥;
+  least : Formed (integer w (negsuc n));
+  less : Formed (integer w (negsuc m)) → ⊥;
+}
 
 -- so many nulls, rows without cells, or pairs
 abbrev pub nulls : ℕ → Values
@@ -74,10 +84,13 @@ Edges = record {
   pairs_events : events (object W8 (pair (named cp) null (pair text_key yes_value no_pairs))) ≡ map_begin ∷ key cp ∷ is_null ∷ key (0x6b ∷ []) ∷ is_true ∷ map_end ∷ [];
   byte_most : Formed (bytes W8 (255 ∷ []));
   byte_beyond : Formed (bytes W8 (256 ∷ [])) → ⊥;
-  most : Formed (integer W8 (pos 127));
-  more : Formed (integer W8 (pos 128)) → ⊥;
-  least : Formed (integer W8 (negsuc 127));
-  less : Formed (integer W8 (negsuc 128)) → ⊥;
+  one_byte : AtWidth W8 127 128;
+  two_bytes : AtWidth W16 32767 32768;
+  four_bytes : AtWidth W32 2147483647 2147483648;
+  eight_bytes : AtWidth W64 9223372036854775807 9223372036854775808;
+  least_of_one : encoding (integer W8 (negsuc 127)) ≡ 0x03 ∷ 0x80 ∷ [];
+  least_of_four : encoding (integer W32 (negsuc 2147483647)) ≡ 0x05 ∷ 0x00 ∷ 0x00 ∷ 0x00 ∷ 0x80 ∷ [];
+  least_of_eight : encoding (integer W64 (negsuc 9223372036854775807)) ≡ 0x06 ∷ 0x00 ∷ 0x00 ∷ 0x00 ∷ 0x00 ∷ 0x00 ∷ 0x00 ∷ 0x00 ∷ 0x80 ∷ [];
   real_most : Formed (real (2 ^ 64 - 1));
   real_beyond : Formed (real (2 ^ 64)) → ⊥;
   key_no_text : KeyFormed (named overlong) → ⊥;

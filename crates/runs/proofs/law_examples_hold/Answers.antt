@@ -1,5 +1,5 @@
 -- What the law rules out, each by the clause that it breaks.
-use Rattle.std.proofs.Common.{◌≡◌, ℕ, zero, suc, ◌+◌, ◌-◌, ◌*◌, ◌≤◌, take, Bool, true, false, inl, inr, List, [], ◌∷◌, ◌++◌, length, Some, None, refl, sym, ap, ◌∙◌, subst, arith}
+use Rattle.std.proofs.Common.{◌≡◌, ℕ, zero, suc, ◌+◌, ◌-◌, ◌≤◌, take, Bool, true, false, inl, inr, List, [], ◌∷◌, ◌++◌, length, Some, None, refl, sym, ap, ◌∙◌, subst, arith}
 use Rattle.read.specs.Reader.{View}
 use Rattle.read.specs.declared.Taken.TheVariants.{Copied}
 use Rattle.format.specs.Numbers.{number_of}
@@ -260,7 +260,7 @@ too_many lends law =
     let b = one_passed (opened ∷ begun 1 ∷ []) (begun 2) event.ArrayBegin c.passed refl refl in
     let (a, at) = one_event opened (begun 1) _ event.ArrayBegin b.passed refl refl in
     let long : length y.es ≡ 5 = ap length (e.all ∙ ap next (d.all ∙ ap next (c.all ∙ ap next (b.all ∙ ap next a)))) in
-    let few : length y.es ≤ 4 * (y.at - 8) = y.truthful.few in
+    let few = y.truthful.few in
     let nine : y.at ≡ 9 = e.count in
     absurd (omega arith)
   where
