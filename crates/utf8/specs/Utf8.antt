@@ -47,8 +47,8 @@ size (range lo hi k) = Some (suc (suc k))
 abbrev pub announced : ℕ → Option ℕ
 announced b = size (first b)
 
--- whether this byte may come next
+-- whether the character that has begun goes on with this byte
 abbrev pub allows : Await → ℕ → Bool
 allows broken b = false
-allows character b = true
+allows character b = false
 allows (range lo hi k) b = within lo hi b

@@ -2,6 +2,7 @@
 #![tactic(auto)]
 
 ghost use Rattle.values.specs.Columns.{EachUnderItsKey};
+ghost use Rattle.values.specs.Edges.{Edges};
 ghost use Rattle.values.specs.Examples.{Examples};
 ghost use Rattle.values.specs.Watchman.{Watchman};
 
@@ -9,6 +10,12 @@ ghost use Rattle.values.specs.Watchman.{Watchman};
 #[tactic(auto, unfolding(crate::specs::Values::count_encoding, utf8::specs::Utf8::utf8))]
 pub fn examples_hold()
     ensures { Examples }
+{}
+
+/// What is well formed and within the limits ends where these examples show.
+#[tactic(auto, unfolding(crate::specs::Values::count_encoding, utf8::specs::Utf8::utf8))]
+pub fn edges_hold()
+    ensures { Edges }
 {}
 
 /// What another writer made is the encoding of the value that it was given, with its events.
