@@ -49,9 +49,8 @@ fn may_follow(lead: u8, byte: u8) -> bool
     ensures { result ≡ allows (first lead) byte }
 {
     match behind_first(lead) {
-        Awaited::Character => true,
         Awaited::Range { low, high, .. } => (low..=high).contains(&byte),
-        Awaited::Nothing => false,
+        Awaited::Character | Awaited::Nothing => false,
     }
 }
 
