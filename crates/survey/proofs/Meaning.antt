@@ -26,6 +26,7 @@ use Rattle.survey.specs.declared.verdict.Verdict.{Verdict}
 use Rattle.survey.specs.Slots.{laid}
 use Rattle.survey.specs.Inside.{EventsInside}
 use Rattle.survey.specs.Surveys.{table_view, Gives, GaveNone, GivesNone, Reads, not_opened, to_the_end, Judged, Surveyed}
+use Rattle.survey.proofs.InTurn.{open_in_turn, close_in_turn}
 use Rattle.survey.specs.Tables.{Holds, shows, Means}
 
 -- ---- no refusal has the number 0
@@ -362,6 +363,7 @@ means {table} {old} {new} {v} s = go s.reads s.lawful s.judged s.slots s.inside
       inside = inside;
       accepted = λ none_refused. absurd (number_some f.cause (sym (ap (λ (v : Verdict). v.number) (judged_as v m refused judged)) ∙ none_refused));
       begins = λ caps start size w holds. (events w, refl);
+      in_turn = open_in_turn m v is_open (law [] m [] refl).turn judged;
       whole = λ caps start size w holds within. let again = ((law [] m [] refl).opens is_open).accepts refl refl caps start size holds.header in absurd (cc);
     }
     go (to_the_end m {h} t gs last n is_open opened gives none close ends) law judged slots inside = record {
@@ -374,6 +376,8 @@ means {table} {old} {new} {v} s = go s.reads s.lawful s.judged s.slots s.inside
           let (w, holds, told) = holds_value table v m h t gs last n law is_open opened gives none close judged k is in
           record { caps = h.capabilities; start = h.start; size = h.length; value = w; holds = holds; told = told; taken = ap (λ (v : Verdict). v.taken) (judged_as v n is judged) ∙ ends k is };
       begins = λ caps start size w holds. given_begins table v m h t gs last n law is_open opened gives none close judged w (declared_of m caps start size w law is_open opened holds);
+      in_turn = close_in_turn ((m ∷ t) ++ (last ∷ [])) (record { start = h.start; length = h.length }) n v (runs_still table v m h t gs last n law is_open opened gives none close judged) close
+          (law ((m ∷ t) ++ (last ∷ [])) n [] (ap (λ l. m ∷ l) (sym (append_assoc t (last ∷ []) (n ∷ []))))).turn judged;
       whole = λ caps start size w holds within.
           let declared = declared_of m caps start size w law is_open opened holds in
           ap (λ (v : Verdict). v.number) (judged_as v n (whole_closes table v m h t gs last n law is_open opened gives none close judged w declared within) judged);

@@ -31,6 +31,10 @@ pub record Accepted (table : List ℕ) (v : Verdict) (given : List GivenEvent) :
   pub told : shows table given ≡ events value
   pub taken : v.taken ≡ start + size
 
+-- not the number of a call out of turn, of another token, or of a text buffer without room
+abbrev pub InTurn : ℕ → Type 0
+InTurn n = (n ≡ 1 → ⊥) × (n ≡ 2 → ⊥) × (n ≡ 14 → ⊥)
+
 pub record Means (table : List ℕ) (old : List Slot) (v : Verdict) (new : List Slot) : Type 0 where
   -- the events that have passed
   pub given : List GivenEvent
@@ -42,5 +46,7 @@ pub record Means (table : List ℕ) (old : List Slot) (v : Verdict) (new : List 
   pub accepted : v.number ≡ 0 → Accepted table v given
   -- of a table that holds a value, within the limits or not, the events begin that value's
   pub begins : (caps start size : ℕ) (w : Value) → Holds table caps start size w → Begins (shows table given) (events w)
+  -- what the calls themselves could be refused by is never met
+  pub in_turn : InTurn v.number
   -- a table that holds a value within the limits is accepted
   pub whole : (caps start size : ℕ) (w : Value) → Holds table caps start size w → Within w lending 0 0 0 → v.number ≡ 0
