@@ -1,4 +1,8 @@
 //! The fields of a line, which one space parts.
+ghost use Rattle.std.specs.Prelude.{◌≡◌, ◌↔◌};
+ghost use Rattle.hex.specs.declared.error.FromHexError.TheVariants as hex_error;
+ghost use Rattle.replay.specs.declared.fields.LineError.TheVariants as line_error;
+
 use hex::FromHexError;
 use source::SourceFault;
 use std::alloc::{AllocError, Global};
@@ -14,12 +18,16 @@ pub enum LineError {
 }
 
 impl From<AllocError> for LineError {
+    ghost from_gives = { λ _ error. error ≡ line_error.OutOfMemory };
+
     fn from(_error: AllocError) -> LineError {
         LineError::OutOfMemory
     }
 }
 
 impl From<FromHexError> for LineError {
+    ghost from_gives = { λ e error. (error ≡ line_error.OutOfMemory) ↔ (e ≡ hex_error.OutOfMemory) };
+
     fn from(error: FromHexError) -> LineError {
         match error {
             FromHexError::OutOfMemory => LineError::OutOfMemory,

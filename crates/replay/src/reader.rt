@@ -1,4 +1,6 @@
 //! The line with which a script begins: the reader of its decoder.
+ghost use Rattle.std.specs.Prelude.{◌≡◌};
+
 use super::fields::{Fields, LineError};
 use source::SourceFault;
 use source::piece::PieceSource;
@@ -21,7 +23,9 @@ impl Pieces {
         })
     }
 
-    pub(crate) fn source(&self) -> PieceSource<'_> {
+    pub(crate) fn source(&self) -> PieceSource<'_>
+        ensures { (result.slice.rest.now ≡ self.now.bytes.items) × (result.most ≡ self.now.most) × (result.ending ≡ self.now.ending) }
+    {
         PieceSource::new(self.bytes.as_slice(), self.most, self.ending)
     }
 }

@@ -3,6 +3,7 @@ ghost use Rattle.std.specs.Prelude.{◌≡◌, ◌↔◌, IsTrue, IfOk};
 ghost use Rattle.format.specs.declared.refusal.ReadError.TheVariants.{Room};
 ghost use Rattle.format.specs.declared.refusal.Cause.TheVariants.{Read};
 ghost use Rattle.tablecheck.specs.Reports.{IsGood};
+ghost use Rattle.tablecheck.specs.contracts.report.FileReportPartialEq.TheImpl as reports;
 
 use super::content::{Content, Survey};
 use super::header::{Headers, copying};
@@ -149,7 +150,9 @@ impl Findings {
         })
     }
 
-    fn agree(&self) -> bool {
+    fn agree(&self) -> bool
+        ensures { IsTrue result → IsTrue (reports.eq-value.it self.now.lent self.now.copied) }
+    {
         self.headers.agree() && self.lent == self.copied
     }
 

@@ -24,6 +24,7 @@ fn header_of<R: DeRead + Drop>(read: R) -> Result<Header, Refusal>
 /// A reader that copies these bytes: a chain of two halves, in pieces of 7 and of 64 bytes.
 pub fn copying(bytes: &[u8]) -> IoRead<Chain<PieceSource<'_>, PieceSource<'_>>>
     ensures parts { result.source.first.slice.rest.now ++ result.source.second.slice.rest.now ≡ bytes.now }
+    ensures pieces { (result.source.first.most ≡ 7) × (result.source.second.most ≡ 64) }
     ensures clean { (result.source.first.ending ≡ None) × (result.source.second.ending ≡ None) }
     ensures fresh { (result.peeked ≡ None) × (result.read_count ≡ 0) }
 {

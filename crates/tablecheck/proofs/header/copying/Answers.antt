@@ -16,6 +16,7 @@ returns c =
           ap (λ l. l ++ c.new-2.result.source.second.slice.rest.now) (ap (λ x. x.slice.rest.now) first ∙ front.0 ∙ cut.front)
           ∙ ap (λ l. take (length xs / 2) xs ++ l) (ap (λ x. x.slice.rest.now) second ∙ back.0 ∙ cut.back)
           ∙ take-append-drop (length xs / 2) xs;
+      pieces = (ap (λ x. x.most) first ∙ front.1, ap (λ x. x.most) second ∙ back.1);
       clean = (ap (λ x. x.ending) first ∙ front.2, ap (λ x. x.ending) second ∙ back.2);
       fresh = (io.2, io.1);
     }
