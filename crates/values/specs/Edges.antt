@@ -32,6 +32,10 @@ abbrev pub null_pairs : ℕ → Pairs
 null_pairs zero = no_pairs
 null_pairs (suc n) = pair (named cp) null (null_pairs n)
 
+-- a number that does not fit its width
+abbrev pub beyond : Value
+beyond = integer W8 (pos 128)
+
 abbrev pub empty : Value
 empty = array W8 no_values
 
@@ -104,6 +108,18 @@ Edges = record {
   keys_long : Formed (template W8 (replicate 128 (named cp)) W16 no_rows) → ⊥;
   rows_long : Formed (template W16 [] W8 (bare_rows 128)) → ⊥;
   rows_wide : Formed (template W8 [] W16 (bare_rows 128));
+  -- what stands inside has to be well formed, the first and a later one
+  first_value : Formed (both beyond null) → ⊥;
+  later_value : Formed (both null beyond) → ⊥;
+  first_pair : Formed (in_object beyond) → ⊥;
+  later_pair : Formed (object W8 (pair (named cp) null (pair text_key beyond no_pairs))) → ⊥;
+  pair_key : Formed (object W8 (pair (named overlong) null no_pairs)) → ⊥;
+  first_key : Formed (template W8 (named overlong ∷ []) W8 no_rows) → ⊥;
+  later_key : Formed (template W8 (named cp ∷ named overlong ∷ []) W8 no_rows) → ⊥;
+  first_cell : Formed (in_row beyond) → ⊥;
+  later_cell : Formed (template W8 (named cp ∷ text_key ∷ []) W8 (row (cell null (cell beyond no_cells)) no_rows)) → ⊥;
+  behind_gap : Formed (template W8 (named cp ∷ text_key ∷ []) W8 (row (gap (cell beyond no_cells)) no_rows)) → ⊥;
+  later_row : Formed (template W8 (named cp ∷ []) W8 (row (cell null no_cells) (row (cell beyond no_cells) no_rows))) → ⊥;
   -- a row has a cell for each key
   row_short : Formed (template W8 (named cp ∷ []) W8 (row no_cells no_rows)) → ⊥;
   row_long : Formed (template W8 [] W8 (row (gap no_cells) no_rows)) → ⊥;
