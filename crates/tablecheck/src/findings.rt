@@ -151,14 +151,16 @@ impl Findings {
     }
 
     fn agree(&self) -> bool
-        ensures { IsTrue result → IsTrue (reports.eq-value.it self.now.lent self.now.copied) }
+        ensures same { IsTrue result → IsTrue (reports.eq-value.it self.now.lent self.now.copied) }
+        ensures all { self.now.headers.lent ≡ self.now.headers.copied → IsTrue (reports.eq-value.it self.now.lent self.now.copied) → IsTrue result }
     {
         self.headers.agree() && self.lent == self.copied
     }
 
     /// Both readers accept every PDU, and come to the same.
     pub fn is_good(&self) -> bool
-        ensures { IsTrue result → IsGood self.now.lent × IsGood self.now.copied }
+        ensures good { IsTrue result → IsGood self.now.lent × IsGood self.now.copied }
+        ensures all { self.now.headers.lent ≡ self.now.headers.copied → IsTrue (reports.eq-value.it self.now.lent self.now.copied) → IsGood self.now.lent → IsGood self.now.copied → IsTrue result }
     {
         self.agree() && self.lent.is_good() && self.copied.is_good()
     }

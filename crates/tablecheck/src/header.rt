@@ -1,8 +1,9 @@
 //! Headers, read without a decoder.
-ghost use Rattle.std.specs.Prelude.{◌≡◌, ◌++◌, None};
+ghost use Rattle.std.specs.Prelude.{◌≡◌, ◌++◌, IsTrue, true, None};
 ghost use Rattle.bunser.specs.Outcome.{TellsAt};
 ghost use Rattle.bunser.specs.Reads.{header_read};
 ghost use Rattle.read.specs.Reader.{View};
+ghost use Rattle.tablecheck.specs.Reports.{file_view};
 
 use bunser::{Bunser, Header};
 use format::refusal::Refusal;
@@ -44,7 +45,8 @@ pub struct Headers {
 impl Headers {
     /// Both come to the same.
     pub fn of(bytes: &[u8]) -> Headers
-        ensures { result.lent ≡ result.copied }
+        ensures reads { (w : View) × TellsAt (header_read true (file_view bytes.now)) result.lent w }
+        ensures same { result.lent ≡ result.copied }
     {
         Headers {
             lent: header_of(SliceRead::new(bytes)),
@@ -52,7 +54,9 @@ impl Headers {
         }
     }
 
-    pub(crate) fn agree(&self) -> bool {
+    pub(crate) fn agree(&self) -> bool
+        ensures { self.now.lent ≡ self.now.copied → IsTrue result }
+    {
         self.lent == self.copied
     }
 }
