@@ -1,3 +1,4 @@
+pub mod Ends
 pub mod Outcome
 pub mod Reads
 pub mod Texts

@@ -7,11 +7,13 @@ ghost use Rattle.format.specs.declared.refusal.ReadError.TheVariants.{End};
 ghost use Rattle.bunser.specs.Outcome.{asked, placed_result, Tells, TellsAt, BodyRead};
 ghost use Rattle.bunser.specs.Reads.{peek_read, bytes_read, fronts, lent_or, array_read, int_read, real_read, int_width, tagged_int_read, count_of, count_read, magical, magic_read, flags_read, capabilities_read, length_read, header_read, end_of};
 
+use crate::end::BodyEnd;
 use format::refusal::{Kind, ReadError, Refusal};
 use format::tags::{FARTHEST, MAGIC};
 use format::width::Width;
-use read::{DeRead, Taken, allow, passes};
+use read::{DeRead, Taken, passes};
 
+mod end;
 pub mod passing;
 pub mod text;
 
@@ -30,7 +32,7 @@ pub struct Header {
 #[derive(Drop)]
 pub struct Bunser<R: DeRead> {
     read: R,
-    end: Option<usize>,
+    end: BodyEnd,
 }
 
 // Copies what was lent. Bytes that were copied stand there already.
@@ -76,7 +78,10 @@ impl<R: DeRead> Bunser<R> {
     pub fn new(read: R) -> Bunser<R>
         ensures { (result.read ≡ read) × (result.end ≡ None) }
     {
-        Bunser { read, end: None }
+        Bunser {
+            read,
+            end: BodyEnd::none(),
+        }
     }
 
     /// Gives the reader back.
@@ -98,7 +103,10 @@ impl<R: DeRead> Bunser<R> {
     fn allow(&self, n: usize) -> Result<(), ReadError>
         ensures { result ≡ allowed (past self.now.end ((R.DeRead.view self.now.read).count + n)) End }
     {
-        allow(self.end, self.read.read_count(), n, ReadError::End)
+        if self.end.is_passed(self.read.read_count(), n) {
+            return Err(ReadError::End);
+        }
+        Ok(())
     }
 
     /// Shows the next byte.
@@ -136,8 +144,10 @@ impl<R: DeRead> Bunser<R> {
         Ok(bytes)
     }
 
+    // `COPY` changes nothing of what is read. Each caller that reads many integers has a copy of its own, which the compiler
+    // lays out in line.
     /// The integer whose tag was taken, in one read.
-    pub fn next_int(&mut self, width: Width) -> Result<i64, ReadError>
+    pub fn next_int<const COPY: usize>(&mut self, width: Width) -> Result<i64, ReadError>
         ensures { BodyRead R.DeRead.view self.old self.new (λ end v. Tells (int_read R.DeRead.lends end width v) result) }
     {
         Ok(match width {
@@ -155,6 +165,16 @@ impl<R: DeRead> Bunser<R> {
         Ok(u64::from_le_bytes(self.read_array()?))
     }
 
+    // The same for counts and lengths, of which most have one byte.
+    fn next_short_int(&mut self, width: Width) -> Result<i64, ReadError>
+        ensures { BodyRead R.DeRead.view self.old self.new (λ end v. Tells (int_read R.DeRead.lends end width v) result) }
+    {
+        match width {
+            Width::W8 => Ok(i64::from(i8::from_le_bytes(self.read_array()?))),
+            _ => self.next_int::<0>(width),
+        }
+    }
+
     /// The next integer, of any width. The tag is taken once it is known to begin one.
     pub fn check_next_int(&mut self) -> Result<i64, ReadError>
         ensures { BodyRead R.DeRead.view self.old self.new (λ end v. Tells (tagged_int_read R.DeRead.lends end v) result) }
@@ -162,7 +182,7 @@ impl<R: DeRead> Bunser<R> {
         let tag = self.peek()?;
         let width = int_width(tag)?;
         self.discard();
-        self.next_int(width)
+        self.next_short_int(width)
     }
 
     /// The next integer as a count or a length, which is not negative.
@@ -235,9 +255,9 @@ impl<R: DeRead> Bunser<R> {
         ensures bounds { self.new.end ≡ end_of result }
         ensures far { IfOk result (λ h. h.start + h.length ≤ FARTHEST) }
     {
-        self.end = None;
+        self.end = BodyEnd::none();
         let header = self.read_header()?;
-        self.end = Some(header.start + header.length);
+        self.end = BodyEnd::at(header.start + header.length);
         Ok(header)
     }
 }

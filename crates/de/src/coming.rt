@@ -12,12 +12,12 @@ use format::tags::Tag;
 use read::DeRead;
 use room::due::Due;
 
-// `KEEPS` changes nothing of what comes. With it `next` and `skip` have a copy each, which the compiler lays out in line
+// `COPY` changes nothing of what comes. With it `next` and `skip` have a copy each, which the compiler lays out in line
 // where it is called; one copy for both took twice the time.
 impl<R: DeRead> Events<R> {
     // An item by its tag, which was shown: a gap may stand where a cell is due.
     #[tactic(auto, unfolding(crate::specs::Steps::tagged))]
-    fn tagged<const KEEPS: bool>(&mut self, due: Due, tag: u8) -> Result<Ahead, Refusal>
+    fn tagged<const COPY: usize>(&mut self, due: Due, tag: u8) -> Result<Ahead, Refusal>
         ensures { Finds (tagged R.DeRead.lends (may_gap due) tag (body_of R.DeRead.view self.old)) result (body_of R.DeRead.view self.new) }
     {
         match (due, Tag::try_from(tag)) {
@@ -33,10 +33,10 @@ impl<R: DeRead> Events<R> {
                 self.template()?;
                 Ok(Ahead::Passed(Event::ArrayBegin))
             }
-            (_, Ok(Tag::ByteString)) => Ok(Ahead::Text(self.text::<KEEPS>(TextKind::Bytes)?)),
-            (_, Ok(Tag::Utf8String)) => Ok(Ahead::Text(self.text::<KEEPS>(TextKind::Text)?)),
+            (_, Ok(Tag::ByteString)) => Ok(Ahead::Text(self.text::<COPY>(TextKind::Bytes)?)),
+            (_, Ok(Tag::Utf8String)) => Ok(Ahead::Text(self.text::<COPY>(TextKind::Text)?)),
             (_, Ok(Tag::Int(width))) => {
-                let value = self.int::<KEEPS>(width)?;
+                let value = self.int::<COPY>(width)?;
                 Ok(Ahead::Passed(Event::Int(width, value)))
             }
             (_, Ok(Tag::Real)) => Ok(Ahead::Passed(Event::Real(self.real()?))),
@@ -51,17 +51,17 @@ impl<R: DeRead> Events<R> {
     }
 
     #[tactic(auto, using(crate::proofs::Finding::then_finds, crate::proofs::Finding::stop_finds), unfolding(crate::specs::Steps::item_comes))]
-    fn item<const KEEPS: bool>(&mut self, due: Due) -> Result<Ahead, Refusal>
+    fn item<const COPY: usize>(&mut self, due: Due) -> Result<Ahead, Refusal>
         ensures { Finds (item_comes R.DeRead.lends (may_gap due) (body_of R.DeRead.view self.old)) result (body_of R.DeRead.view self.new) }
     {
         let place = self.bunser.read_count();
         let tag = placed(self.bunser.peek(), place)?;
-        self.tagged::<KEEPS>(due, tag)
+        self.tagged::<COPY>(due, tag)
     }
 
     /// What comes next. An event that needs no text has passed then.
     #[tactic(auto, unfolding(crate::specs::Steps::coming))]
-    pub(crate) fn coming<const KEEPS: bool>(&mut self) -> Result<Ahead, Refusal>
+    pub(crate) fn coming<const COPY: usize>(&mut self) -> Result<Ahead, Refusal>
         ensures { Finds (coming R.DeRead.lends (body_of R.DeRead.view self.old)) result (body_of R.DeRead.view self.new) }
     {
         if let Some(text) = self.unread {
@@ -69,7 +69,7 @@ impl<R: DeRead> Events<R> {
         }
         match self.opens.due() {
             Due::Done => Ok(Ahead::Nothing),
-            due @ (Due::Value | Due::Cell) => self.item::<KEEPS>(due),
+            due @ (Due::Value | Due::Cell) => self.item::<COPY>(due),
             Due::MapKey => Ok(Ahead::Text(self.map_key()?)),
             Due::RowBegin => Ok(self.turn(Event::MapBegin)),
             Due::RowKey => Ok(Ahead::Column),

@@ -17,12 +17,12 @@ use read::DeRead;
 
 impl<R: DeRead> Events<R> {
     #[tactic(auto, using(crate::proofs::Finding::then_finds, crate::proofs::Finding::stop_finds), unfolding(crate::specs::Steps::int_comes))]
-    pub(crate) fn int<const KEEPS: bool>(&mut self, width: Width) -> Result<i64, Refusal>
+    pub(crate) fn int<const COPY: usize>(&mut self, width: Width) -> Result<i64, Refusal>
         ensures { Finds (int_comes R.DeRead.lends width (body_of R.DeRead.view self.old)) (found (λ z. Passed (Int width z)) result) (body_of R.DeRead.view self.new) }
     {
         let place = self.bunser.read_count();
         self.bunser.discard();
-        let value = placed(self.bunser.next_int(width), place)?;
+        let value = placed(self.bunser.next_int::<COPY>(width), place)?;
         self.pass_value();
         Ok(value)
     }
@@ -40,7 +40,7 @@ impl<R: DeRead> Events<R> {
 
     // A text is awaited once its length is known.
     #[tactic(auto, using(crate::proofs::Finding::then_finds, crate::proofs::Finding::stop_finds), unfolding(crate::specs::Steps::text_comes))]
-    pub(crate) fn text<const KEEPS: bool>(&mut self, kind: TextKind) -> Result<Unread, Refusal>
+    pub(crate) fn text<const COPY: usize>(&mut self, kind: TextKind) -> Result<Unread, Refusal>
         ensures { Finds (text_comes R.DeRead.lends kind (body_of R.DeRead.view self.old)) (found Text result) (body_of R.DeRead.view self.new) }
     {
         self.bunser.discard();

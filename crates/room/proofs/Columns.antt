@@ -8,7 +8,7 @@ use Rattle.room.specs.declared.due.Due.TheVariants.{RowKey}
 use Rattle.room.specs.declared.frame.Table.{Table}
 use Rattle.room.specs.declared.frame.Frame.{Frame}
 use Rattle.room.specs.declared.frame.Frame.TheVariants as frame
-use Rattle.room.specs.Frames.{columns, open_of, Fits, column_at}
+use Rattle.room.specs.Frames.{columns, over, Fits, column_at}
 
 module _ (held : List Column) (t : Table) (i n : ℕ) (s : List (Open Column)) (fits : t.first + t.len ≤ length held) (more : i < t.len) where
   columns_long : length (columns held t) ≡ t.len
@@ -32,7 +32,9 @@ front_of : (held : List Column) (i : ℕ) (x : Column) (rest : List Column) → 
 front_of held i x rest e = let z : i + 0 ≡ i = omega arith in sym (ap (λ k. get_or held k (copied [])) z) ∙ sym (get_or-drop i held 0 (copied [])) ∙ ap (λ l. get_or l 0 (copied [])) e
 
 module _ (held : List Column) (s : List (Open Column)) where
-  pub found_column : (f : Frame) (i : ℕ) (x : Column) (rest : List Column) → Fits held f → Some i ≡ column_at f → drop i held ≡ x ∷ rest → x ≡ column (open_of held f ∷ s)
+  pub found_column : (f : Frame) (i : ℕ) (x : Column) (rest : List Column) → Fits held f → Some i ≡ column_at f → drop i held ≡ x ∷ rest → x ≡ column (over held f s)
+  found_column frame.Done i x rest fits is e = absurd (cc)
+  found_column frame.Start i x rest fits is e = absurd (cc)
   found_column (frame.Items n) i x rest fits is e = absurd (cc)
   found_column (frame.Pairs n) i x rest fits is e = absurd (cc)
   found_column (frame.Field n) i x rest fits is e = absurd (cc)
@@ -40,14 +42,16 @@ module _ (held : List Column) (s : List (Open Column)) where
   found_column (frame.Cell t j n) i x rest fits is e = absurd (cc)
   found_column (frame.Row t j n) i x rest fits is e = go (ltb j t.len) refl is
     where
-      go : (b : Bool) → ltb j t.len ≡ b → Some i ≡ cond b (Some (t.first + j)) None → x ≡ column (open_of held (frame.Row t j n) ∷ s)
+      go : (b : Bool) → ltb j t.len ≡ b → Some i ≡ cond b (Some (t.first + j)) None → x ≡ column (over held (frame.Row t j n) s)
       go false q is = absurd (cc)
       go true q is =
           let more = ltb-true j t.len q in
           let at : i ≡ t.first + j = cc in
           sym (column_is held t j n s fits more ∙ get_or-take t.len (drop t.first held) j (copied []) more ∙ get_or-drop t.first held j (copied []) ∙ ap (λ k. get_or held k (copied [])) (sym at) ∙ front_of held i x rest e)
 
-  pub no_column : (f : Frame) → Fits held f → None ≡ column_at f → copied [] ≡ column (open_of held f ∷ s)
+  pub no_column : (f : Frame) → Fits held f → None ≡ column_at f → copied [] ≡ column (over held f s)
+  no_column frame.Done fits is = refl
+  no_column frame.Start fits is = refl
   no_column (frame.Items n) fits is = refl
   no_column (frame.Pairs n) fits is = refl
   no_column (frame.Field n) fits is = refl
@@ -55,7 +59,7 @@ module _ (held : List Column) (s : List (Open Column)) where
   no_column (frame.Cell t j n) fits is = refl
   no_column (frame.Row t j n) fits is = go (ltb j t.len) refl is
     where
-      go : (b : Bool) → ltb j t.len ≡ b → None ≡ cond b (Some (t.first + j)) None → copied [] ≡ column (open_of held (frame.Row t j n) ∷ s)
+      go : (b : Bool) → ltb j t.len ≡ b → None ≡ cond b (Some (t.first + j)) None → copied [] ≡ column (over held (frame.Row t j n) s)
       go true q is = absurd (cc)
       go false q is =
           let long = ltb-false j t.len q in

@@ -36,10 +36,10 @@ module _ (r : Inside) (kept : Kept r) (old : Opened) (is : opened r ≡ old) (no
   it : Grown (listed_read lends end (length r.keys) (column_bytes r.keys) v) r.keys s keys w
   it = grown_by (listed_read lends end (length r.keys) (column_bytes r.keys) v) r.keys s keys w h
 
-  pub list_kept : Kept (record { frames = r.frames; depth = d; starts = r.starts; rows = r.rows; keys = keys; own = r.own })
+  pub list_kept : Kept (record { top = r.top; frames = r.frames; depth = d; rows = r.rows; keys = keys; own = r.own })
   list_kept = listing_kept r kept none_left keys it.more d same few it.grown
 
-  list_opened : opened (record { frames = r.frames; depth = d; starts = r.starts; rows = r.rows; keys = keys; own = r.own }) ≡ record { opens = old.opens; listed = it.more }
+  list_opened : opened (record { top = r.top; frames = r.frames; depth = d; rows = r.rows; keys = keys; own = r.own }) ≡ record { opens = old.opens; listed = it.more }
   list_opened = listing_opened r kept none_left keys it.more d same few it.grown ∙ ap (λ o. record { opens = o.opens; listed = it.more }) is
 
   many : length r.keys ≡ keys_held old.opens
@@ -48,12 +48,12 @@ module _ (r : Inside) (kept : Kept r) (old : Opened) (is : opened r ≡ old) (no
   long : column_bytes r.keys ≡ bytes_held column_bytes old.opens
   long = own_bytes r kept none_left ∙ ap (λ o. bytes_held column_bytes o.opens) is
 
-  pub list_told : s ≡ Ok tt → ListTold (listed_read lends end (keys_held old.opens) (bytes_held column_bytes old.opens) v) old.opens s (opened (record { frames = r.frames; depth = d; starts = r.starts; rows = r.rows; keys = keys; own = r.own })) w
+  pub list_told : s ≡ Ok tt → ListTold (listed_read lends end (keys_held old.opens) (bytes_held column_bytes old.opens) v) old.opens s (opened (record { top = r.top; frames = r.frames; depth = d; rows = r.rows; keys = keys; own = r.own })) w
   list_told ok =
       subst (λ o. ListTold (listed_read lends end (keys_held old.opens) (bytes_held column_bytes old.opens) v) old.opens s o w) (sym list_opened)
       (subst₂ (λ n k. ListTold (listed_read lends end n k v) old.opens s (record { opens = old.opens; listed = it.more }) w) many long (it.told old.opens ok))
 
-  pub list_stop : (f : Refusal) (new : Opened) → s ≡ Err f → new ≡ record { opens = (opened (record { frames = r.frames; depth = d; starts = r.starts; rows = r.rows; keys = keys; own = r.own })).opens; listed = [] } →
+  pub list_stop : (f : Refusal) (new : Opened) → s ≡ Err f → new ≡ record { opens = (opened (record { top = r.top; frames = r.frames; depth = d; rows = r.rows; keys = keys; own = r.own })).opens; listed = [] } →
       ListTold (listed_read lends end (keys_held old.opens) (bytes_held column_bytes old.opens) v) old.opens (Err f) new w
   list_stop f new err forgot = subst₂ (λ n k. ListTold (listed_read lends end n k v) old.opens (Err f) new w) many long (go (listed_read lends end (length r.keys) (column_bytes r.keys) v) (subst (λ s. KeysTold (listed_read lends end (length r.keys) (column_bytes r.keys) v) r.keys s keys w) err h))
     where

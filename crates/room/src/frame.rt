@@ -1,7 +1,7 @@
-//! One open level, and how the events of a body change it.
+//! What stands innermost of a body, and how its events change it.
 ghost use Rattle.std.specs.Prelude.{◌≡◌, ◌+◌, ◌≤◌, List, ◌∷◌, length};
 ghost use Rattle.room.specs.Open.{Column, Open, due, filled, keyed, row_turned};
-ghost use Rattle.room.specs.Frames.{open_of, Fits, Limited, Over, column_at, below, in_row};
+ghost use Rattle.room.specs.Frames.{over, Fits, Limited, Over, column_at, below, in_row};
 
 use super::due::Due;
 
@@ -12,9 +12,13 @@ pub(crate) struct Table {
     pub(crate) len: usize,
 }
 
-/// What is open at one level.
+/// What is open at one level, or of the body itself below all levels.
 #[derive(Clone, Copy)]
 pub(crate) enum Frame {
+    /// Nothing more is to come.
+    Done,
+    /// The one value of the body is to come.
+    Start,
     /// An array with so many values to come.
     Items(usize),
     /// An object before a key, with so many pairs to come.
@@ -31,11 +35,12 @@ pub(crate) enum Frame {
 
 impl Frame {
     pub(crate) fn due(&self) -> Due
-        ensures { (held : List Column) (s : List (Open Column)) → Fits held self.now → result ≡ due (open_of held self.now ∷ s) }
+        ensures { (held : List Column) (s : List (Open Column)) → Fits held self.now → result ≡ due (over held self.now s) }
     {
         match *self {
+            Frame::Done => Due::Done,
             Frame::Items(0) | Frame::Rows(_, 0) => Due::ArrayEnd,
-            Frame::Items(_) | Frame::Field(_) => Due::Value,
+            Frame::Start | Frame::Items(_) | Frame::Field(_) => Due::Value,
             Frame::Pairs(0) => Due::MapEnd,
             Frame::Pairs(_) => Due::MapKey,
             Frame::Rows(_, _) => Due::RowBegin,
@@ -47,11 +52,12 @@ impl Frame {
 
     // A value has begun.
     pub(crate) fn fill(&mut self)
-        ensures fills { (held : List Column) (s : List (Open Column)) → filled (open_of held self.old ∷ s) ≡ open_of held self.new ∷ s }
+        ensures fills { (held : List Column) (s : List (Open Column)) → filled (over held self.old s) ≡ over held self.new s }
         ensures over { Over self.old self.new }
         ensures rows { in_row self.new ≡ in_row self.old }
     {
         match *self {
+            Frame::Start => *self = Frame::Done,
             Frame::Items(left) => *self = Frame::Items(left.saturating_sub(1)),
             Frame::Field(left) => *self = Frame::Pairs(left),
             Frame::Cell(table, next, left) => *self = Frame::Row(table, next, left),
@@ -61,7 +67,7 @@ impl Frame {
 
     // The key of a pair has passed.
     pub(crate) fn key(&mut self)
-        ensures keys { (held : List Column) (s : List (Open Column)) → keyed (open_of held self.old ∷ s) ≡ open_of held self.new ∷ s }
+        ensures keys { (held : List Column) (s : List (Open Column)) → keyed (over held self.old s) ≡ over held self.new s }
         ensures over { Over self.old self.new }
         ensures rows { in_row self.new ≡ in_row self.old }
     {
@@ -74,7 +80,7 @@ impl Frame {
 
     // A row begins, the key of a column passes, or a row ends.
     pub(crate) fn turn(&mut self)
-        ensures turns { (held : List Column) (s : List (Open Column)) → Fits held self.old → row_turned (open_of held self.old ∷ s) ≡ open_of held self.new ∷ s }
+        ensures turns { (held : List Column) (s : List (Open Column)) → Fits held self.old → row_turned (over held self.old s) ≡ over held self.new s }
         ensures over { Over self.old self.new }
     {
         match *self {

@@ -4,7 +4,7 @@ ghost use Rattle.bunser.specs.Outcome.{BodyRead};
 ghost use Rattle.room.specs.Open.{Open, start, items, pairs, rows, due, filled, keyed, row_turned, ended, column, depth, nesting, keys_held, bytes_held, column_bytes};
 ghost use Rattle.room.specs.KeyList.{listed_read, key_list_read, KeysTold, ListTold};
 ghost use Rattle.room.specs.Opened.{with_opens, if_free};
-ghost use Rattle.room.specs.Frames.{open_of, Plain};
+ghost use Rattle.room.specs.Frames.{over, Plain};
 ghost use Rattle.room.specs.Shown.{name_of};
 
 use super::depth::{Depth, LEVELS, Level};
@@ -20,10 +20,12 @@ use std::marker::Model;
 /// The open levels, and the keys of the open templates.
 #[derive(Drop)]
 pub struct Opens {
+    // By itself, since almost every event is about it alone.
+    /// What stands innermost.
+    top: Frame,
+    /// What stands below it, the lowest first.
     frames: [Frame; LEVELS],
     depth: Depth,
-    /// The one value of the body is to come.
-    starts: bool,
     /// How many rows are open.
     rows: usize,
     keys: KeyRoom,
@@ -43,14 +45,14 @@ impl Model for Opens {
     ghost invariant = { Kept };
 }
 
-// A level is taken by this frame.
-fn push(frames: &mut [Frame; LEVELS], depth: &mut Depth, frame: Frame)
+// A level is taken. What stood innermost stands below it.
+fn push(frames: &mut [Frame; LEVELS], depth: &mut Depth, below: Frame)
     requires free { 0 < depth.old.free }
     requires all { (depth.old.free ≤ 128) × (length frames.old ≡ 128) }
-    ensures there { frames.new ≡ set frames.old (128 - depth.old.free) frame }
+    ensures there { frames.new ≡ set frames.old (128 - depth.old.free) below }
     ensures less { depth.new.free ≡ depth.old.free - 1 }
 {
-    frames[depth.taken()] = frame;
+    frames[depth.taken()] = below;
     depth.free -= 1;
 }
 
@@ -83,9 +85,9 @@ impl Opens {
         ensures { result ≡ record { opens = []; listed = [] } }
     {
         Opens {
+            top: Frame::Done,
             frames: [Frame::Items(0); LEVELS],
             depth: Depth { free: 128 },
-            starts: false,
             rows: 0,
             keys: KeyRoom::new(),
             own: 0,
@@ -97,8 +99,8 @@ impl Opens {
         ensures { self.new ≡ record { opens = start ∷ []; listed = [] } }
     {
         self.keys.truncate(0);
+        self.top = Frame::Start;
         self.depth.free = 128;
-        self.starts = true;
         self.rows = 0;
         self.own = 0;
     }
@@ -128,25 +130,14 @@ impl Opens {
     pub fn due(&self) -> Due
         ensures { result ≡ due self.now.opens }
     {
-        let taken = self.depth.taken();
-        if taken > 0 {
-            self.frames[taken - 1].due()
-        } else if self.starts {
-            Due::Value
-        } else {
-            Due::Done
-        }
+        self.top.due()
     }
 
     /// The column whose key comes next.
     pub fn column(&self) -> Name<'_>
         ensures { name_of result ≡ column self.now.opens }
     {
-        let taken = self.depth.taken();
-        if taken == 0 {
-            return Name::Copied(&[]);
-        }
-        match self.frames[taken - 1].column() {
+        match self.top.column() {
             Some(index) => self.keys.name(index),
             None => Name::Copied(&[]),
         }
@@ -156,35 +147,23 @@ impl Opens {
     pub fn fill(&mut self)
         ensures { self.new ≡ with_opens self.old (filled self.old.opens) }
     {
-        let taken = self.depth.taken();
-        if taken > 0 {
-            self.frames[taken - 1].fill();
-        } else {
-            self.starts = false;
-        }
+        self.top.fill();
     }
 
     /// The key of a pair has passed.
     pub fn key(&mut self)
         ensures { self.new ≡ with_opens self.old (keyed self.old.opens) }
     {
-        let taken = self.depth.taken();
-        if taken > 0 {
-            self.frames[taken - 1].key();
-        }
+        self.top.key();
     }
 
     /// A row begins, the key of a column passes, or a row ends.
     pub fn turn(&mut self)
         ensures { self.new ≡ with_opens self.old (row_turned self.old.opens) }
     {
-        let taken = self.depth.taken();
-        if taken > 0 {
-            let frame = &mut self.frames[taken - 1];
-            let rows = self.rows - frame.rows();
-            frame.turn();
-            self.rows = rows + frame.rows();
-        }
+        let rows = self.rows - self.top.rows();
+        self.top.turn();
+        self.rows = rows + self.top.rows();
     }
 
     // The innermost level is given back.
@@ -193,12 +172,12 @@ impl Opens {
     {
         let taken = self.depth.taken();
         if taken > 0 {
-            let frame = self.frames[taken - 1];
-            self.rows -= frame.rows();
-            self.own = frame.below(self.own);
+            self.rows -= self.top.rows();
+            self.own = self.top.below(self.own);
+            self.top = self.frames[taken - 1];
             self.depth.free += 1;
         } else {
-            self.starts = false;
+            self.top = Frame::Done;
         }
     }
 
@@ -222,10 +201,11 @@ impl Opens {
     fn push(&mut self, frame: Frame)
         requires free { depth self.old.opens < LEVELS }
         requires plain { Plain frame }
-        ensures { self.new ≡ with_opens self.old (open_of [] frame ∷ filled self.old.opens) }
+        ensures { self.new ≡ with_opens self.old (over [] frame (filled self.old.opens)) }
     {
         self.fill();
-        push(&mut self.frames, &mut self.depth, frame);
+        push(&mut self.frames, &mut self.depth, self.top);
+        self.top = frame;
     }
 
     /// An array of n values begins. Where no level is free it does not.
@@ -298,7 +278,8 @@ impl Opens {
             first,
             len: own - first,
         };
-        push(&mut self.frames, &mut self.depth, Frame::Rows(table, n));
+        push(&mut self.frames, &mut self.depth, self.top);
+        self.top = Frame::Rows(table, n);
         self.own = own;
     }
 

@@ -23,6 +23,6 @@ unfolding tagged_int_read
 returns g c =
     let h = c.in_ok-tag.ensures in
     let some = sym c.in_ok-width.ensures in
-    let k = c.next_int.ensures in
+    let k = c.next_short_int.ensures in
     let end = c.discard.ensures.same ∙ h.same in
     record { reads = then_ok ReadLeaves _ _ _ _ _ _ h.reads (rw some (simp (end, c.discard.ensures.reads) at k.reads)); same = k.same ∙ end }

@@ -1,5 +1,5 @@
-use Rattle.std.proofs.Common.{[], ◌∷◌, drop, ap, ◌∙◌}
-use Rattle.room.specs.Frames.{open_of}
+use Rattle.std.proofs.Common.{[], drop, ap, ◌∙◌}
+use Rattle.room.specs.Frames.{over}
 use Rattle.room.specs.Opened.{with_opens}
 use Rattle.room.specs.Opens.{opened}
 use Rattle.room.proofs.Levels.{columnless}
@@ -24,5 +24,5 @@ returns c =
     let listed = drop own c.self.inside.keys in
     ap (λ s. record { opens = s; listed = listed })
     (pushed_opens c.self.inside c.self.invariant c.args.frame own c.push.new.frames c.push.new.depth left c.push.ensures.there c.push.ensures.less (plain.ends own) (plain.under own) c.self.invariant.own plain.no_row)
-    ∙ ap (λ o. record { opens = o ∷ (opened c.self.inside).opens; listed = listed }) (plain.same [] c.self.inside.keys)
-    ∙ ap (λ o. with_opens o (open_of [] c.args.frame ∷ o.opens)) (c.self.view_is ∙ c.fill.ensures)
+    ∙ ap (λ s. record { opens = s; listed = listed }) (plain.same [] c.self.inside.keys (opened c.self.inside).opens)
+    ∙ ap (λ o. with_opens o (over [] c.args.frame o.opens)) (c.self.view_is ∙ c.fill.ensures)

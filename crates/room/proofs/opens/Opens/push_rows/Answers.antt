@@ -28,5 +28,5 @@ returns c =
     let opens =
     pushed_opens c.self.inside c.self.invariant (Rows (record { first = c.self.inside.own; len = c.len-own.result - c.self.inside.own }) c.args.n) c.len-own.result c.push.new.frames c.push.new.depth left c.push.ensures.there c.push.ensures.less
     (omega arith) refl (omega arith) refl in
-    ap₂ (λ s l. record { opens = s; listed = l }) (opens ∙ ap (λ l. rows l c.args.n ∷ opens_in c.self.inside.keys c.self.inside.frames c.self.inside.starts (count_of c.self.inside)) (take_all (c.len-own.result - c.self.inside.own) listed long)) (drop_of_length-le c.self.inside.keys (omega arith))
+    ap₂ (λ s l. record { opens = s; listed = l }) (opens ∙ ap (λ l. rows l c.args.n ∷ opens_in c.self.inside.keys c.self.inside.top c.self.inside.frames (count_of c.self.inside)) (take_all (c.len-own.result - c.self.inside.own) listed long)) (drop_of_length-le c.self.inside.keys (omega arith))
     ∙ ap (λ o. record { opens = rows o.listed c.args.n ∷ o.opens; listed = [] }) (c.self.view_is ∙ c.fill.ensures)
