@@ -166,7 +166,7 @@ impl<R: DeRead> Bunser<R> {
     }
 
     // The same for counts and lengths, of which most have one byte.
-    fn next_short_int(&mut self, width: Width) -> Result<i64, ReadError>
+    fn next_short_int<const COPY: usize>(&mut self, width: Width) -> Result<i64, ReadError>
         ensures { BodyRead R.DeRead.view self.old self.new (λ end v. Tells (int_read R.DeRead.lends end width v) result) }
     {
         match width {
@@ -176,20 +176,20 @@ impl<R: DeRead> Bunser<R> {
     }
 
     /// The next integer, of any width. The tag is taken once it is known to begin one.
-    pub fn check_next_int(&mut self) -> Result<i64, ReadError>
+    pub fn check_next_int<const COPY: usize>(&mut self) -> Result<i64, ReadError>
         ensures { BodyRead R.DeRead.view self.old self.new (λ end v. Tells (tagged_int_read R.DeRead.lends end v) result) }
     {
         let tag = self.peek()?;
         let width = int_width(tag)?;
         self.discard();
-        self.next_short_int(width)
+        self.next_short_int::<COPY>(width)
     }
 
     /// The next integer as a count or a length, which is not negative.
-    pub fn next_count(&mut self) -> Result<usize, ReadError>
+    pub fn next_count<const COPY: usize>(&mut self) -> Result<usize, ReadError>
         ensures { BodyRead R.DeRead.view self.old self.new (λ end v. Tells (count_read R.DeRead.lends end v) result) }
     {
-        let value = self.check_next_int()?;
+        let value = self.check_next_int::<COPY>()?;
         count_of(value)
     }
 
@@ -225,7 +225,7 @@ impl<R: DeRead> Bunser<R> {
         ensures { BodyRead R.DeRead.view self.old self.new (λ end v. TellsAt (length_read R.DeRead.lends end capabilities v) result) }
     {
         let place = self.read_count();
-        let length = self.placed_count()?;
+        let length = self.placed_count::<0>()?;
         let start = self.read_count();
         if passes(Some(FARTHEST), start, length) {
             return Err(ReadError::TooLong.at(place));

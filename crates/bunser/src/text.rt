@@ -126,11 +126,11 @@ impl<R: DeRead> Bunser<R> {
     }
 
     /// The next integer as a count; a refusal is placed at its tag.
-    pub fn placed_count(&mut self) -> Result<usize, Refusal>
+    pub fn placed_count<const COPY: usize>(&mut self) -> Result<usize, Refusal>
         ensures { BodyRead R.DeRead.view self.old self.new (λ end v. TellsAt (placed_count R.DeRead.lends end v) result) }
     {
         let place = self.read_count();
-        placed(self.next_count(), place)
+        placed(self.next_count::<COPY>(), place)
     }
 
     /// The length of the key that comes next, whose tag is taken once it is known to begin a key.
@@ -143,7 +143,7 @@ impl<R: DeRead> Bunser<R> {
             return Err(ReadError::Byte(kind, tag).at(place));
         }
         self.discard();
-        self.placed_count()
+        self.placed_count::<0>()
     }
 
     // Whether the bytes that were taken are UTF-8.

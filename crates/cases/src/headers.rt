@@ -222,7 +222,7 @@ fn a_header_at_a_stop(rt: HostRuntime) {
 fn no_read_of_a_body_passes_its_end(rt: HostRuntime) {
     let mut bunser = Bunser::new(SliceRead::new(b"\x00\x02\x00\x00\x00\x00\x03\x01\x03\x05"));
     assert!(rt; bunser.read_pdu().is_ok());
-    assert_eq!(rt; bunser.check_next_int(), Err(ReadError::End));
+    assert_eq!(rt; bunser.check_next_int::<0>(), Err(ReadError::End));
     assert_eq!(rt;
         bunser.read_count(),
         9,

@@ -12,7 +12,7 @@ use std::process::Abort;
 // What reading an integer over this reader comes to, and how many bytes are then taken.
 fn reads<R: DeRead + Drop>(rt: &impl Abort, read: R, answer: Result<i64, ReadError>, count: usize) {
     let mut bunser = Bunser::new(read);
-    assert_eq!(rt; bunser.check_next_int(), answer);
+    assert_eq!(rt; bunser.check_next_int::<0>(), answer);
     assert_eq!(rt; bunser.read_count(), count);
 }
 
@@ -102,11 +102,11 @@ fn a_cut_number_has_its_tag_taken(rt: HostRuntime) {
 #[test]
 fn a_count_is_not_negative(rt: HostRuntime) {
     let mut none = Bunser::new(SliceRead::new(b"\x03\x00"));
-    assert_eq!(rt; none.next_count(), Ok(0));
+    assert_eq!(rt; none.next_count::<0>(), Ok(0));
     let mut most = Bunser::new(SliceRead::new(b"\x06\xff\xff\xff\xff\xff\xff\xff\x7f"));
-    assert_eq!(rt; most.next_count(), Ok(0x7fff_ffff_ffff_ffff));
+    assert_eq!(rt; most.next_count::<0>(), Ok(0x7fff_ffff_ffff_ffff));
     let mut less = Bunser::new(IoRead::new(PieceSource::new(b"\x04\xff\xff", 1, None)));
-    assert_eq!(rt; less.next_count(), Err(ReadError::Negative));
+    assert_eq!(rt; less.next_count::<0>(), Err(ReadError::Negative));
     assert_eq!(rt; less.read_count(), 3, "the integer has been taken");
 }
 

@@ -2,6 +2,10 @@
 use Rattle.std.specs.Prelude.{◌≡◌, ℕ, ◌+◌, Bool, true, false, cond, List, [], ◌∷◌, length, Some, None, Ok, Err, Result, nat_lt}
 use Rattle.read.specs.declared.Taken.TheVariants.{Lent, Copied}
 use Rattle.read.specs.Reader.{View}
+use Rattle.format.specs.declared.tags.Tag.{Tag}
+use Rattle.format.specs.declared.tags.Tag.TheVariants as tag
+use Rattle.bunser.specs.declared.text.TextKind.{TextKind}
+use Rattle.bunser.specs.declared.text.TextKind.TheVariants as text
 use Rattle.format.specs.declared.refusal.ReadError.TheVariants.{Room}
 use Rattle.format.specs.declared.refusal.Refusal.{Refusal}
 use Rattle.bunser.specs.declared.Header.{Header}
@@ -31,6 +35,20 @@ may_gap due.RowKey = false
 may_gap due.RowEnd = false
 may_gap due.MapEnd = false
 may_gap due.ArrayEnd = false
+
+-- what the bytes of a text are, by the tag that it begins with
+abbrev pub kind_of : Tag → TextKind
+kind_of tag.ByteString = text.Bytes
+kind_of tag.Utf8String = text.Text
+kind_of tag.Array = text.Text
+kind_of tag.Object = text.Text
+kind_of (tag.Int w) = text.Text
+kind_of tag.Real = text.Text
+kind_of tag.True = text.Text
+kind_of tag.False = text.Text
+kind_of tag.Null = text.Text
+kind_of tag.Template = text.Text
+kind_of tag.Skip = text.Text
 
 -- where the key of a column lies once it is shown
 abbrev pub span_of : Column → Span

@@ -33,7 +33,7 @@ impl<R: DeRead> Events<R> {
             return Err(self.too_deep());
         }
         self.bunser.discard();
-        let n = self.bunser.placed_count()?;
+        let n = self.bunser.placed_count::<0>()?;
         self.opens.items(n);
         self.pass();
         Ok(())
@@ -47,7 +47,7 @@ impl<R: DeRead> Events<R> {
             return Err(self.too_deep());
         }
         self.bunser.discard();
-        let n = self.bunser.placed_count()?;
+        let n = self.bunser.placed_count::<0>()?;
         self.opens.pairs(n);
         self.pass();
         Ok(())

@@ -1,7 +1,7 @@
 //! What comes of a body, by what is open and by the tag.
 ghost use Rattle.std.specs.Prelude.{◌≡◌, Ok};
 ghost use Rattle.de.specs.Steps.{tagged, item_comes, coming, Finds};
-ghost use Rattle.de.specs.Held.{body_of, may_gap};
+ghost use Rattle.de.specs.Held.{body_of, may_gap, kind_of};
 
 use super::event::{Ahead, Event};
 use super::events::Events;
@@ -11,6 +11,16 @@ use format::refusal::{Kind, ReadError, Refusal};
 use format::tags::Tag;
 use read::DeRead;
 use room::due::Due;
+
+// What begins with the tag of byte strings, or else with that of texts.
+fn kind_of(tag: Tag) -> TextKind
+    ensures { result ≡ kind_of tag }
+{
+    match tag {
+        Tag::ByteString => TextKind::Bytes,
+        _ => TextKind::Text,
+    }
+}
 
 // `COPY` changes nothing of what comes. With it `next` and `skip` have a copy each, which the compiler lays out in line
 // where it is called; one copy for both took twice the time.
@@ -33,8 +43,9 @@ impl<R: DeRead> Events<R> {
                 self.template()?;
                 Ok(Ahead::Passed(Event::ArrayBegin))
             }
-            (_, Ok(Tag::ByteString)) => Ok(Ahead::Text(self.text::<COPY>(TextKind::Bytes)?)),
-            (_, Ok(Tag::Utf8String)) => Ok(Ahead::Text(self.text::<COPY>(TextKind::Text)?)),
+            (_, Ok(text @ (Tag::ByteString | Tag::Utf8String))) => {
+                Ok(Ahead::Text(self.text::<COPY>(kind_of(text))?))
+            }
             (_, Ok(Tag::Int(width))) => {
                 let value = self.int::<COPY>(width)?;
                 Ok(Ahead::Passed(Event::Int(width, value)))

@@ -44,7 +44,7 @@ impl<R: DeRead> Events<R> {
         ensures { Finds (text_comes R.DeRead.lends kind (body_of R.DeRead.view self.old)) (found Text result) (body_of R.DeRead.view self.new) }
     {
         self.bunser.discard();
-        let len = self.bunser.placed_count()?;
+        let len = self.bunser.placed_count::<COPY>()?;
         Ok(self.wait(Unread { kind, len }))
     }
 

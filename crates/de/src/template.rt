@@ -19,7 +19,7 @@ impl<R: DeRead> Events<R> {
         ensures { Finds (rows_come R.DeRead.lends self.old.opens.listed (body_of R.DeRead.view self.old) (body_of R.DeRead.view self.old).reader) (found (λ _. Passed ArrayBegin) result) (body_of R.DeRead.view self.new) }
     {
         let place = self.bunser.read_count();
-        let n = self.bunser.placed_count()?;
+        let n = self.bunser.placed_count::<0>()?;
         if n > 0 && self.opens.listed() == 0 {
             return Err(Refusal {
                 place,

@@ -70,7 +70,7 @@ fn read_listed<R: DeRead>(
     let held = keys.len();
     bunser.discard();
     let place = bunser.read_count();
-    let count = bunser.placed_count()?;
+    let count = bunser.placed_count::<0>()?;
     if count > KEYS - held {
         return Err(Refusal {
             place,
