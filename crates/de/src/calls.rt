@@ -6,13 +6,14 @@ ghost use Rattle.bunser.specs.Texts.{spanned, referred, bytes_of, is_borrowed, i
 ghost use Rattle.de.specs.Shown.{span_bytes};
 ghost use Rattle.source.specs.Feed.{fronted};
 ghost use Rattle.de.specs.Calls.{fresh, here, latch, telling, refused_of, Meets, open_call, next_call, next_puts, SkipCall, close_body, close_call, tally};
-ghost use Rattle.de.specs.Decoding.{state_of, extent_of};
+ghost use Rattle.de.specs.Decoding.{state_of, extent_of, latched_of};
 ghost use Rattle.de.specs.Turns.{InTurn};
 
 use super::decoder::Decoder;
 use super::event::{Event, Refused};
 use super::events::Events;
 use super::pdu::{Closed, Extent, OpenPdu, PduInfo};
+use super::turn::Turn;
 use bunser::text::{Reference, Span};
 use format::refusal::{Cause, ReadError, Refusal};
 use read::DeRead;
@@ -23,12 +24,11 @@ impl<R: DeRead> Decoder<R> {
     {
         Decoder {
             events: Events::new(reader),
-            pdu: None,
+            turn: Turn::Closed,
             last: Extent {
                 start: 0,
                 length: 0,
             },
-            latched: None,
             refused: None,
         }
     }
@@ -60,39 +60,37 @@ impl<R: DeRead> Decoder<R> {
         ensures keeps { state_of R.DeRead.view self.new ≡ telling refusal (latch refusal (state_of R.DeRead.view self.old)) }
     {
         if refusal.latches() {
-            self.latched = Some(refusal);
+            self.turn = Turn::Latched(refusal, self.turn.pdu());
         }
         self.tell(refusal)
     }
 
     // Before any question of `next` and `skip`: a refusal that has latched, then whether a PDU is open.
     fn is_open(&mut self) -> Result<(), Refused>
-        ensures { InTurn self.old.latched (state_of R.DeRead.view self.old) result (state_of R.DeRead.view self.new) }
+        ensures { InTurn (latched_of self.old.turn) (state_of R.DeRead.view self.old) result (state_of R.DeRead.view self.new) }
     {
-        if let Some(refusal) = self.latched {
-            return Err(self.tell(refusal));
-        }
-        if self.pdu.is_none() {
-            let refusal = self.here(Cause::OutOfTurn);
-            return Err(self.tell(refusal));
-        }
-        Ok(())
+        let refusal = match self.turn {
+            Turn::Open(_) => return Ok(()),
+            Turn::Closed => self.here(Cause::OutOfTurn),
+            Turn::Latched(refusal, _) => refusal,
+        };
+        Err(self.tell(refusal))
     }
 
     /// Reads the header of the next PDU.
     pub fn open(&mut self) -> Result<PduInfo, Refused>
         ensures { Meets (open_call R.DeRead.lends (state_of R.DeRead.view self.old)) result (state_of R.DeRead.view self.new) }
     {
-        if let Some(refusal) = self.latched {
+        if let Some(refusal) = self.turn.latched() {
             return Err(self.tell(refusal));
         }
-        if self.pdu.is_some() {
+        if self.turn.pdu().is_some() {
             let refusal = self.here(Cause::OutOfTurn);
             return Err(self.tell(refusal));
         }
         match self.events.open() {
             Ok(header) => {
-                self.pdu = Some(OpenPdu {
+                self.turn = Turn::Open(OpenPdu {
                     start: header.start,
                     length: header.length,
                 });
@@ -109,7 +107,7 @@ impl<R: DeRead> Decoder<R> {
     /// Gives the next event, or none behind the last. Bytes that are copied go to the front of the buffer.
     pub fn next(&mut self, buf: &mut [u8]) -> Result<Option<Event>, Refused>
         ensures says { Meets (next_call R.DeRead.lends (length buf.old) (state_of R.DeRead.view self.old)) result (state_of R.DeRead.view self.new) }
-        ensures puts { buf.new ≡ fronted (next_puts self.old.latched R.DeRead.lends (length buf.old) (state_of R.DeRead.view self.old)) buf.old }
+        ensures puts { buf.new ≡ fronted (next_puts (latched_of self.old.turn) R.DeRead.lends (length buf.old) (state_of R.DeRead.view self.old)) buf.old }
     {
         self.is_open()?;
         match self.events.next(buf) {
@@ -134,22 +132,22 @@ impl<R: DeRead> Decoder<R> {
         ensures { Meets (close_call info (state_of R.DeRead.view self.old)) result (state_of R.DeRead.view self.new) }
     {
         let PduInfo { header } = info;
-        let Some(pdu) = self.pdu else {
+        let Some(pdu) = self.turn.pdu() else {
             let refusal = self.here(Cause::Token);
             return Err(self.tell(refusal));
         };
         let owns = header.start == pdu.start && header.length == pdu.length;
-        if let Some(refusal) = self.latched
+        if let Some(refusal) = self.turn.latched()
             && owns
         {
-            self.pdu = None;
+            self.turn = Turn::Latched(refusal, None);
             return Err(self.tell(refusal));
         }
         if !owns {
             let refusal = self.here(Cause::Token);
             return Err(self.tell(refusal));
         }
-        self.pdu = None;
+        self.turn = Turn::Closed;
         self.end(pdu)
     }
 
@@ -184,7 +182,7 @@ impl<R: DeRead> Decoder<R> {
     pub fn tally(&self) -> (usize, usize)
         ensures { result ≡ tally (state_of R.DeRead.view self.now) }
     {
-        let count = match self.latched {
+        let count = match self.turn.latched() {
             Some(refusal) => refusal.place,
             None => self.events.bunser.read_count(),
         };

@@ -1,6 +1,7 @@
 //! What a decoder holds between two calls.
 use super::events::Events;
-use super::pdu::{Extent, OpenPdu};
+use super::pdu::Extent;
+use super::turn::Turn;
 use format::refusal::Refusal;
 use read::DeRead;
 
@@ -8,12 +9,9 @@ use read::DeRead;
 #[derive(Drop)]
 pub struct Decoder<R: DeRead> {
     pub(crate) events: Events<R>,
-    /// The PDU that is open.
-    pub(crate) pdu: Option<OpenPdu>,
+    pub(crate) turn: Turn,
     /// The PDU opened last.
     pub(crate) last: Extent,
-    /// The refusal that later calls give again.
-    pub(crate) latched: Option<Refusal>,
     /// The refusal told last.
     pub(crate) refused: Option<Refusal>,
 }

@@ -14,3 +14,4 @@ pub mod pdu;
 mod skip;
 mod template;
 mod text;
+mod turn;

@@ -3,7 +3,7 @@ ghost use Rattle.std.specs.Prelude.{◌≡◌, length, IsSome, MatchResult};
 ghost use Rattle.source.specs.Feed.{fronted};
 ghost use Rattle.de.specs.Calls.{Meets, open_call, next_call, next_puts, SkipCall, close_call};
 ghost use Rattle.de.specs.Made.{AsTold, OpenAnswer, NextAnswer, SkipAnswer, CloseAnswer, Made, MadeWith, Logged, token, moment};
-ghost use Rattle.de.specs.Decoding.{state_of};
+ghost use Rattle.de.specs.Decoding.{state_of, latched_of};
 
 use super::decoder::Decoder;
 use super::entry::{Answer, Call, Entry};
@@ -35,7 +35,7 @@ impl<R: DeRead> Decoder<R> {
 
     fn made_next(&mut self, text: &mut [u8]) -> Answer
         ensures says { Made (Meets (next_call R.DeRead.lends (length text.old) (state_of R.DeRead.view self.old))) NextAnswer result (state_of R.DeRead.view self.new) }
-        ensures puts { text.new ≡ fronted (next_puts self.old.latched R.DeRead.lends (length text.old) (state_of R.DeRead.view self.old)) text.old }
+        ensures puts { text.new ≡ fronted (next_puts (latched_of self.old.turn) R.DeRead.lends (length text.old) (state_of R.DeRead.view self.old)) text.old }
     {
         match self.next(text) {
             Ok(Some(event)) => Answer::Gave(event),
