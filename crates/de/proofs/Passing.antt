@@ -15,7 +15,6 @@ use Rattle.format.specs.declared.refusal.Cause.{Cause}
 use Rattle.format.specs.declared.refusal.Cause.TheVariants as cause
 use Rattle.room.specs.Open.{Column, lent, copied, column, row_turned}
 use Rattle.de.specs.declared.event.Ahead.{Ahead}
-use Rattle.de.specs.declared.event.Ahead.TheVariants as ahead
 use Rattle.de.specs.Steps.{Body, moved, behind, Coming, comes, halts, coming, finishes, finishing, text_space, text_outcome, text_puts, text_front, text_by, behind_text, text_step, column_by, column_step, step, Apart, Finds}
 use Rattle.de.specs.Calls.{drawn, drawn_by, drawn_view, PassesOver}
 use Rattle.de.proofs.Awaiting.{Awaited, coming_awaits}
@@ -83,16 +82,6 @@ step_stops lends b c f r found stop = go (coming lends b) (coming_awaits lends b
     go : (m : Coming) → Awaited m → Finds m (Err f) c → PassesOver lends (finishing lends None m) r c
     go (comes a d) calm (x, y) = ok_err (sym x)
     go (halts g d) calm (x, y) = let same : f ≡ g = cc in (err_is r f stop ∙ ap Err same, subst (λ d. Apart g d c) (sym (undrawn lends g d calm)) y)
-
-pub step_awaits : (lends : Bool) (b c : Body) (u : Unread) → Finds (coming lends b) (Ok (ahead.Text u)) c → c.unread ≡ Some u
-step_awaits lends b c u found = go (coming lends b) (coming_awaits lends b) found
-  where
-    go : (m : Coming) → Awaited m → Finds m (Ok (ahead.Text u)) c → c.unread ≡ Some u
-    go (comes (ahead.Text t) d) calm (x, y) = let same : u ≡ t = cc in ap (λ d. d.unread) y ∙ calm ∙ ap Some (sym same)
-    go (comes ahead.Nothing d) calm (x, y) = absurd (cc)
-    go (comes (ahead.Passed e) d) calm (x, y) = absurd (cc)
-    go (comes ahead.Column d) calm (x, y) = absurd (cc)
-    go (halts g d) calm (x, y) = ok_err x
 
 -- what comes is told, and the rest of the step from there
 pub step_from : (lends : Bool) (b c : Body) (a : Ahead) (r : Result Bool Refusal) (d : Body) → Finds (coming lends b) (Ok a) c → PassesOver lends (finishes lends None a c) r d → PassesOver lends (step lends None b) r d

@@ -1,7 +1,7 @@
 //! Arrays and objects, behind a tag that was shown.
 ghost use Rattle.std.specs.Prelude.{◌≡◌};
 ghost use Rattle.room.specs.Open.{items, pairs, ended, row_turned};
-ghost use Rattle.de.specs.Steps.{array_comes, object_comes, key_comes, turns, refuse, found, Finds};
+ghost use Rattle.de.specs.Steps.{array_comes, object_comes, key_comes, turns, refuse, found, Finds, awaited};
 ghost use Rattle.de.specs.Held.{body_of};
 ghost use Rattle.de.specs.declared.event.Ahead.TheVariants.{Passed, Text};
 ghost use Rattle.de.specs.declared.event.Event.TheVariants.{ArrayBegin, MapBegin};
@@ -53,21 +53,21 @@ impl<R: DeRead> Events<R> {
         Ok(())
     }
 
-    // The key of a pair, whose text is awaited once its length is known.
+    // The key of a pair, once the length of its text is known.
     #[tactic(auto, using(crate::proofs::Finding::then_finds, crate::proofs::Finding::stop_finds), unfolding(crate::specs::Steps::key_comes))]
     pub(crate) fn map_key(&mut self) -> Result<Unread, Refusal>
-        ensures { Finds (key_comes R.DeRead.lends (body_of R.DeRead.view self.old)) (found Text result) (body_of R.DeRead.view self.new) }
+        ensures { Finds (key_comes R.DeRead.lends (body_of R.DeRead.view self.old)) (found Text result) (awaited (found Text result) (body_of R.DeRead.view self.new)) }
     {
         let len = self.bunser.key_len(Kind::MapKey)?;
-        Ok(self.wait(Unread {
+        Ok(Unread {
             kind: TextKind::Key,
             len,
-        }))
+        })
     }
 
     // The innermost has ended.
     pub(crate) fn end(&mut self, event: Event) -> Ahead
-        ensures { Finds (turns event (body_of R.DeRead.view self.old) (ended (body_of R.DeRead.view self.old).opens)) (Ok result) (body_of R.DeRead.view self.new) }
+        ensures { Finds (turns event (body_of R.DeRead.view self.old) (ended (body_of R.DeRead.view self.old).opens)) (Ok result) (awaited (Ok result) (body_of R.DeRead.view self.new)) }
     {
         self.opens.end();
         self.pass();

@@ -1,7 +1,7 @@
 //! The events of a body, one after the other.
 ghost use Rattle.std.specs.Prelude.{◌≡◌, ◌+◌, ◌≤◌, IfOk};
 ghost use Rattle.room.specs.Open.{start, filled, keyed, row_turned, ended};
-ghost use Rattle.de.specs.Steps.{behind, awaiting, due_comes, item_comes, coming, Finds};
+ghost use Rattle.de.specs.Steps.{behind, due_comes, item_comes, coming, Finds};
 ghost use Rattle.bunser.specs.Reads.{header_read};
 ghost use Rattle.de.specs.Calls.{finished};
 ghost use Rattle.de.specs.Held.{body_of, unread_body, HeaderTold};
@@ -53,15 +53,6 @@ impl<R: DeRead> Events<R> {
     {
         self.opens.fill();
         self.pass();
-    }
-
-    // A text is awaited from now on.
-    pub(crate) fn wait(&mut self, text: Unread) -> Unread
-        ensures gives { result ≡ text }
-        ensures waits { body_of R.DeRead.view self.new ≡ awaiting (body_of R.DeRead.view self.old) (body_of R.DeRead.view self.old).reader text }
-    {
-        self.unread = Some(text);
-        text
     }
 
     // The header of a PDU; its one value is to come.

@@ -1,5 +1,5 @@
 //! Items: numbers, texts and what is only a tag, behind a tag that was shown.
-ghost use Rattle.de.specs.Steps.{int_comes, real_comes, text_comes, tag_comes, behind, found, Finds};
+ghost use Rattle.de.specs.Steps.{int_comes, real_comes, text_comes, tag_comes, behind, found, Finds, awaited};
 ghost use Rattle.std.specs.Prelude.{◌≡◌, Ok};
 ghost use Rattle.read.specs.Reader.{discarded};
 ghost use Rattle.room.specs.Open.{filled};
@@ -38,14 +38,14 @@ impl<R: DeRead> Events<R> {
         Ok(number)
     }
 
-    // A text is awaited once its length is known.
+    // A text, once its length is known. It is awaited where its event does not pass.
     #[tactic(auto, using(crate::proofs::Finding::then_finds, crate::proofs::Finding::stop_finds), unfolding(crate::specs::Steps::text_comes))]
     pub(crate) fn text<const COPY: usize>(&mut self, kind: TextKind) -> Result<Unread, Refusal>
-        ensures { Finds (text_comes R.DeRead.lends kind (body_of R.DeRead.view self.old)) (found Text result) (body_of R.DeRead.view self.new) }
+        ensures { Finds (text_comes R.DeRead.lends kind (body_of R.DeRead.view self.old)) (found Text result) (awaited (found Text result) (body_of R.DeRead.view self.new)) }
     {
         self.bunser.discard();
         let len = self.bunser.placed_count::<COPY>()?;
-        Ok(self.wait(Unread { kind, len }))
+        Ok(Unread { kind, len })
     }
 
     // A value that is only its tag passes.
@@ -59,7 +59,7 @@ impl<R: DeRead> Events<R> {
     // A value that is only its tag. What it does is a call of its own, so that this one is small enough to be laid out in line.
     #[tactic(auto, unfolding(crate::specs::Steps::tag_comes))]
     pub(crate) fn only_tag(&mut self, event: Event) -> Ahead
-        ensures { Finds (tag_comes R.DeRead.lends event (body_of R.DeRead.view self.old)) (Ok result) (body_of R.DeRead.view self.new) }
+        ensures { Finds (tag_comes R.DeRead.lends event (body_of R.DeRead.view self.old)) (Ok result) (awaited (Ok result) (body_of R.DeRead.view self.new)) }
     {
         self.pass_tag();
         Ahead::Passed(event)

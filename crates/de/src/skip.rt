@@ -1,6 +1,6 @@
 //! Events that are passed over.
-ghost use Rattle.std.specs.Prelude.{◌≡◌, Some, None};
-ghost use Rattle.de.specs.Steps.{text_step, step};
+ghost use Rattle.std.specs.Prelude.{None};
+ghost use Rattle.de.specs.Steps.{awaiting, text_step, step};
 ghost use Rattle.de.specs.Calls.{PassesOver, Skip};
 ghost use Rattle.de.specs.Held.{body_of};
 
@@ -12,16 +12,22 @@ use format::refusal::Refusal;
 use read::DeRead;
 
 impl<R: DeRead> Events<R> {
-    // A text that is awaited passes over, of which nothing is kept.
+    // A text passes over, of which nothing is kept. It is awaited where it is refused.
     fn skip_text(&mut self, text: Unread) -> Result<bool, Refusal>
-        requires { (body_of R.DeRead.view self.old).unread ≡ Some text }
-        ensures { PassesOver R.DeRead.lends (text_step R.DeRead.lends None text (body_of R.DeRead.view self.old)) result (body_of R.DeRead.view self.new) }
+        ensures { PassesOver R.DeRead.lends (text_step R.DeRead.lends None text (awaiting (body_of R.DeRead.view self.old) (body_of R.DeRead.view self.old).reader text)) result (body_of R.DeRead.view self.new) }
     {
         let place = self.bunser.read_count();
-        placed(self.bunser.pass_text(text), place)?;
-        self.move_on(text.kind);
-        self.pass();
-        Ok(true)
+        match placed(self.bunser.pass_text(text), place) {
+            Ok(()) => {
+                self.move_on(text.kind);
+                self.pass();
+                Ok(true)
+            }
+            Err(refusal) => {
+                self.unread = Some(text);
+                Err(refusal)
+            }
+        }
     }
 
     // The next event passes over. False where there is none.

@@ -1,7 +1,7 @@
 //! Templates, behind a tag that was shown, and their rows.
 ghost use Rattle.std.specs.Prelude.{◌<◌, Ok};
 ghost use Rattle.room.specs.Open.{depth, row_turned};
-ghost use Rattle.de.specs.Steps.{template_comes, rows_come, turns, found, Finds};
+ghost use Rattle.de.specs.Steps.{awaited, template_comes, rows_come, turns, found, Finds};
 ghost use Rattle.de.specs.Held.{body_of};
 ghost use Rattle.de.specs.declared.event.Ahead.TheVariants.{Passed};
 ghost use Rattle.de.specs.declared.event.Event.TheVariants.{ArrayBegin};
@@ -45,7 +45,7 @@ impl<R: DeRead> Events<R> {
 
     // A row begins or ends.
     pub(crate) fn turn(&mut self, event: Event) -> Ahead
-        ensures { Finds (turns event (body_of R.DeRead.view self.old) (row_turned (body_of R.DeRead.view self.old).opens)) (Ok result) (body_of R.DeRead.view self.new) }
+        ensures { Finds (turns event (body_of R.DeRead.view self.old) (row_turned (body_of R.DeRead.view self.old).opens)) (Ok result) (awaited (Ok result) (body_of R.DeRead.view self.new)) }
     {
         self.opens.turn();
         self.pass();

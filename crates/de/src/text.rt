@@ -2,7 +2,7 @@
 ghost use Rattle.std.specs.Prelude.{◌≡◌, length, Some};
 ghost use Rattle.source.specs.Feed.{fronted};
 ghost use Rattle.room.specs.Open.{column};
-ghost use Rattle.de.specs.Steps.{opened, text_event, behind_text, text_step, column_step, step, puts, Says};
+ghost use Rattle.de.specs.Steps.{awaiting, opened, text_event, behind_text, text_step, column_step, step, puts, Says};
 ghost use Rattle.de.specs.Held.{body_of, column_shown, column_front};
 
 use super::event::{Ahead, Event};
@@ -35,13 +35,20 @@ impl<R: DeRead> Events<R> {
         }
     }
 
+    // A text that has come before its event, which it awaits where it is refused.
     #[tactic(auto, unfolding(crate::specs::Steps::text_step))]
     fn read_text(&mut self, text: Unread, buf: &mut [u8]) -> Result<Option<Event>, Refusal>
-        ensures says { Says (text_step R.DeRead.lends (Some (length buf.old)) text (body_of R.DeRead.view self.old)) result (body_of R.DeRead.view self.new) }
-        ensures puts { buf.new ≡ fronted (puts (text_step R.DeRead.lends (Some (length buf.old)) text (body_of R.DeRead.view self.old))) buf.old }
+        ensures says { Says (text_step R.DeRead.lends (Some (length buf.old)) text (awaiting (body_of R.DeRead.view self.old) (body_of R.DeRead.view self.old).reader text)) result (body_of R.DeRead.view self.new) }
+        ensures puts { buf.new ≡ fronted (puts (text_step R.DeRead.lends (Some (length buf.old)) text (awaiting (body_of R.DeRead.view self.old) (body_of R.DeRead.view self.old).reader text))) buf.old }
     {
         let place = self.bunser.read_count();
-        let taken = placed(self.bunser.take_text(text, buf), place)?;
+        let taken = match placed(self.bunser.take_text(text, buf), place) {
+            Ok(taken) => taken,
+            Err(refusal) => {
+                self.unread = Some(text);
+                return Err(refusal);
+            }
+        };
         let span = Span {
             taken,
             len: text.len,
