@@ -22,8 +22,8 @@ fn kind_of(tag: Tag) -> TextKind
     }
 }
 
-// `COPY` changes nothing of what comes. With it the values and the cells of `next` and of `skip` have a copy each, which the
-// compiler lays out in line where it is called; one copy for all took twice the time.
+// `COPY` changes nothing of what comes. With it `next` and `skip` have a copy each, which the compiler lays out in line
+// where it is called; one copy for both took twice the time.
 impl<R: DeRead> Events<R> {
     // An item by its tag, which was shown: a gap may stand where a cell is due.
     #[tactic(auto, unfolding(crate::specs::Steps::tagged))]
@@ -72,7 +72,7 @@ impl<R: DeRead> Events<R> {
 
     /// What comes next. An event that needs no text has passed then.
     #[tactic(auto, unfolding(crate::specs::Steps::coming))]
-    pub(crate) fn coming<const VALUE: usize, const CELL: usize>(&mut self) -> Result<Ahead, Refusal>
+    pub(crate) fn coming<const COPY: usize>(&mut self) -> Result<Ahead, Refusal>
         ensures { Finds (coming R.DeRead.lends (body_of R.DeRead.view self.old)) result (awaited result (body_of R.DeRead.view self.new)) }
     {
         if let Some(text) = self.unread {
@@ -80,8 +80,7 @@ impl<R: DeRead> Events<R> {
         }
         match self.opens.due() {
             Due::Done => Ok(Ahead::Nothing),
-            Due::Value => self.item::<VALUE>(Due::Value),
-            Due::Cell => self.item::<CELL>(Due::Cell),
+            due @ (Due::Value | Due::Cell) => self.item::<COPY>(due),
             Due::MapKey => Ok(Ahead::Text(self.map_key()?)),
             Due::RowBegin => Ok(self.turn(Event::MapBegin)),
             Due::RowKey => Ok(Ahead::Column),

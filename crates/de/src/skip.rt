@@ -34,7 +34,7 @@ impl<R: DeRead> Events<R> {
     fn skip_one(&mut self) -> Result<bool, Refusal>
         ensures { PassesOver R.DeRead.lends (step R.DeRead.lends None (body_of R.DeRead.view self.old)) result (body_of R.DeRead.view self.new) }
     {
-        match self.coming::<3, 4>()? {
+        match self.coming::<2>()? {
             Ahead::Nothing => Ok(false),
             Ahead::Passed(_) => Ok(true),
             Ahead::Text(text) => self.skip_text(text),

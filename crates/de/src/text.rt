@@ -100,7 +100,7 @@ impl<R: DeRead> Events<R> {
         ensures says { Says (step R.DeRead.lends (Some (length buf.old)) (body_of R.DeRead.view self.old)) result (body_of R.DeRead.view self.new) }
         ensures puts { buf.new ≡ fronted (puts (step R.DeRead.lends (Some (length buf.old)) (body_of R.DeRead.view self.old))) buf.old }
     {
-        match self.coming::<1, 2>()? {
+        match self.coming::<1>()? {
             Ahead::Nothing => Ok(None),
             Ahead::Passed(event) => Ok(Some(event)),
             Ahead::Text(text) => self.read_text(text, buf),
