@@ -44,7 +44,8 @@ impl<R: DeRead> Events<R> {
         if self.unread.is_some() {
             self.unread = None;
         }
-        self.passed = self.passed.saturating_add(1);
+        // An addition of what a comparison gives, which takes fewer instructions than `saturating_add`.
+        self.passed += usize::from(self.passed < usize::MAX);
     }
 
     // A value has begun.

@@ -74,3 +74,19 @@ given e xs ys buf part m n more fits some h =
       left = ap (λ f. giving f.bytes e) c.left;
       put = rw (c.put, few, append_assoc, ← drop-append-le n (take m buf) (drop m buf) room, take-append-drop m buf);
     })
+
+-- The same into the whole buffer.
+pub given_all : (e : Option SourceFault) (xs ys buf buf' : List ℕ) (n : ℕ) → 0 < length buf → (n ≡ 0 → ⊥) → Read (giving xs None) buf (Ok n) (giving ys None) buf' → Read (giving xs e) buf (Ok n) (giving ys e) buf'
+given_all e xs ys buf buf' n more some h =
+    let c = came (giving xs None) (giving ys None) buf buf' n h more some in
+    let there : n ≤ length xs = c.there in
+    let one : 1 ≤ n = c.some in
+    rw (ne_eqb (length buf) 0 (λ e. omega arith), ne_eqb (length xs) 0 (λ e. omega arith)) (record {
+      size = n;
+      gives = refl;
+      some = one;
+      room = c.room;
+      there = there;
+      left = ap (λ f. giving f.bytes e) c.left;
+      put = c.put;
+    })

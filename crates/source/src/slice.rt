@@ -29,10 +29,18 @@ impl<'a> Source for SliceSource<'a> {
         ensures reads { Read (giving self.old.rest.now None) buf.old result (giving self.new.rest.now None) buf.new }
         ensures all { result ≡ portioned (length self.old.rest.now) (giving self.old.rest.now None) (length buf.old) }
     {
-        let n = buf.len().min(self.rest.len());
-        let (front, rest) = self.rest.split_at(n);
-        buf[..n].copy_from_slice(front);
-        self.rest = rest;
-        Ok(n)
+        // The buffer is filled by a copy of its own, which is one move where its length is known.
+        let n = buf.len();
+        if n <= self.rest.len() {
+            let (front, rest) = self.rest.split_at(n);
+            buf.copy_from_slice(front);
+            self.rest = rest;
+            return Ok(n);
+        }
+        let rest = self.rest;
+        let left = rest.len();
+        buf[..left].copy_from_slice(rest);
+        self.rest = &[];
+        Ok(left)
     }
 }
