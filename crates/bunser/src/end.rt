@@ -1,8 +1,10 @@
 //! The declared end of a body.
-ghost use Rattle.std.specs.Prelude.{◌≡◌, ◌+◌, ◌<◌, Some, None};
+ghost use Rattle.std.specs.Prelude.{◌≡◌, ◌+◌, ◌<◌, ◌≤◌, Some, None};
 ghost use Rattle.read.specs.Reader.{past};
 
 use std::marker::Model;
+
+const FEW: usize = 256;
 
 // A number and no `Option` of one, as each read asks for it.
 /// The count that no read passes, where one is declared.
@@ -35,13 +37,15 @@ impl BodyEnd {
         BodyEnd { stop }
     }
 
+    // Few bytes are asked for most often, and none passes the greatest number by them: no reader counts so far.
     /// Whether a read of n bytes at this count passes it.
     pub(crate) fn is_passed(&self, at: usize, n: usize) -> bool
+        requires { at ≤ 9223372036854775807 }
         ensures { result ≡ past self.now (at + n) }
     {
         match self.stop.checked_sub(at) {
             Some(left) if n <= left => false,
-            _ => self.stop != usize::MAX,
+            _ => n <= FEW || self.stop != usize::MAX,
         }
     }
 }

@@ -44,8 +44,7 @@ impl<R: DeRead> Events<R> {
         if self.unread.is_some() {
             self.unread = None;
         }
-        // An addition of what a comparison gives, which takes fewer instructions than `saturating_add`.
-        self.passed += usize::from(self.passed < usize::MAX);
+        self.passed = self.passed.saturating_add(1);
     }
 
     // A value has begun.

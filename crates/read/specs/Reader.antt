@@ -29,6 +29,8 @@ pub record Sound (lends : Bool) (v : View) : Type 0 where
   pub kept_all : length v.kept ≡ cond lends v.count 0
   pub held_there : v.peeked ≡ true → 1 ≤ length v.coming
   pub coded : Coded v.ending
+  -- no memory holds more, and no source gives more
+  pub counted : v.count ≤ 9223372036854775807
 
 -- ---- refusals
 

@@ -18,4 +18,5 @@ slice_sound s =
       kept_all = rw length-take (omega arith);
       held_there = λ e. let h = s.held e in rw length-drop (omega arith);
       coded = clean_coded;
+      counted = let long = s.long in omega arith;
     }

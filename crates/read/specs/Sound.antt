@@ -1,5 +1,5 @@
 -- That the meanings of the readers are sound: proofs that the readers hand to their trait.
-use Rattle.std.specs.Prelude.{◌≡◌, ℕ, ◌≤◌, Bool, true, false, List, [], ◌++◌, length, is_some, Some, None, Option, option_to_list, refl}
+use Rattle.std.specs.Prelude.{◌≡◌, ℕ, ◌+◌, ◌≤◌, Bool, true, false, List, [], ◌++◌, length, is_some, Some, None, Option, option_to_list, refl}
 use Rattle.std.proofs.Common.{arith}
 use Rattle.source.specs.Bytes.{Octets}
 use Rattle.source.specs.Feed.{Feed}
@@ -15,14 +15,15 @@ held_first : (o : Option ℕ) (xs : List ℕ) → is_some o ≡ true → 1 ≤ l
 held_first (Some b) xs e = omega arith
 held_first None xs e = absurd (cc)
 
-pub io_sound : (f : Feed) (o : Option ℕ) (n : ℕ) → feed.Sound f → Octets (option_to_list o) → Sound false (io_view f o n)
-io_sound f o n sound octet = record {
+pub io_sound : (f : Feed) (o : Option ℕ) (n : ℕ) → feed.Sound f → Octets (option_to_list o) → n + length (option_to_list o) ≤ 1152921504606846992 → Sound false (io_view f o n)
+io_sound f o n sound octet before = record {
   octets = octets_append (option_to_list o) f.bytes octet sound.octets;
   kept_octets = octets_none;
   kept_all = refl;
   held_there = held_first o f.bytes;
   coded = sound.coded;
+  counted = omega arith;
 }
 
 pub fence_sound : (lends : Bool) (n : ℕ) (v : View) → Sound lends v → Sound lends (fenced n v)
-fence_sound lends n v h = record { octets = h.octets; kept_octets = h.kept_octets; kept_all = h.kept_all; held_there = h.held_there; coded = h.coded }
+fence_sound lends n v h = record { octets = h.octets; kept_octets = h.kept_octets; kept_all = h.kept_all; held_there = h.held_there; coded = h.coded; counted = h.counted }

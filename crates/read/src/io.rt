@@ -65,7 +65,7 @@ impl<S: Source> DeRead for IoRead<S> {
 
     ghost lends = { false };
 
-    ghost sound = { λ s. io_sound (S.Source.feed s.source) s.peeked s.read_count (S.Source.sound s.source) s.octet };
+    ghost sound = { λ s. io_sound (S.Source.feed s.source) s.peeked s.read_count (S.Source.sound s.source) s.octet s.before };
 
     fn peek(&mut self) -> Result<u8, Fault> {
         allow(Some(STOP), self.read_count, 1, Fault::Stop)?;

@@ -12,6 +12,7 @@ pub struct SliceRead<'a> {
     // to be kept the same.
     peeked: bool,
     ghost octets: { Octets slice.now },
+    ghost long: { length slice.now ≤ 9223372036854775807 },
     ghost within: { index ≤ length slice.now },
     ghost held: { (peeked ≡ true → index < length slice.now) },
 }
