@@ -272,13 +272,13 @@ abbrev pub Finds : Coming → Result Ahead Refusal → Body → Type 0
 Finds (comes a b) r c = (r ≡ Ok a) × (c ≡ b)
 Finds (halts f b) r c = (r ≡ Err f) × Apart f b c
 
--- a text that was found is awaited until its event passes
-abbrev pub awaited : Result Ahead Refusal → Body → Body
-awaited (Ok ahead.Nothing) b = b
-awaited (Ok (ahead.Passed e)) b = b
-awaited (Ok (ahead.Text u)) b = awaiting b b.reader u
-awaited (Ok ahead.Column) b = b
-awaited (Err f) b = b
+-- what is held once an event that was found has passed; a text that was found is awaited until its event passes
+abbrev pub settled : Result Ahead Refusal → Body → Body
+settled (Ok ahead.Nothing) b = b
+settled (Ok (ahead.Passed e)) b = behind b b.reader b.opens
+settled (Ok (ahead.Text u)) b = awaiting b b.reader u
+settled (Ok ahead.Column) b = b
+settled (Err f) b = b
 
 -- what is found, of which a part is handed out
 abbrev pub found : {A : Type 0} → (A → Ahead) → Result A Refusal → Result Ahead Refusal

@@ -1,6 +1,6 @@
 //! What comes of a body, by what is open and by the tag.
 ghost use Rattle.std.specs.Prelude.{◌≡◌, Ok};
-ghost use Rattle.de.specs.Steps.{tagged, item_comes, coming, Finds, awaited};
+ghost use Rattle.de.specs.Steps.{tagged, item_comes, coming, Finds, settled};
 ghost use Rattle.de.specs.Held.{body_of, may_gap, kind_of};
 
 use super::event::{Ahead, Event};
@@ -28,7 +28,7 @@ impl<R: DeRead> Events<R> {
     // An item by its tag, which was shown: a gap may stand where a cell is due.
     #[tactic(auto, unfolding(crate::specs::Steps::tagged))]
     fn tagged<const COPY: usize>(&mut self, due: Due, tag: u8) -> Result<Ahead, Refusal>
-        ensures { Finds (tagged R.DeRead.lends (may_gap due) tag (body_of R.DeRead.view self.old)) result (awaited result (body_of R.DeRead.view self.new)) }
+        ensures { Finds (tagged R.DeRead.lends (may_gap due) tag (body_of R.DeRead.view self.old)) result (settled result (body_of R.DeRead.view self.new)) }
     {
         match (due, Tag::try_from(tag)) {
             (_, Ok(Tag::Array)) => {
@@ -63,7 +63,7 @@ impl<R: DeRead> Events<R> {
 
     #[tactic(auto, using(crate::proofs::Finding::then_finds, crate::proofs::Finding::stop_finds), unfolding(crate::specs::Steps::item_comes))]
     fn item<const COPY: usize>(&mut self, due: Due) -> Result<Ahead, Refusal>
-        ensures { Finds (item_comes R.DeRead.lends (may_gap due) (body_of R.DeRead.view self.old)) result (awaited result (body_of R.DeRead.view self.new)) }
+        ensures { Finds (item_comes R.DeRead.lends (may_gap due) (body_of R.DeRead.view self.old)) result (settled result (body_of R.DeRead.view self.new)) }
     {
         let place = self.bunser.read_count();
         let tag = placed(self.bunser.peek(), place)?;
@@ -73,7 +73,7 @@ impl<R: DeRead> Events<R> {
     /// What comes next. An event that needs no text has passed then.
     #[tactic(auto, unfolding(crate::specs::Steps::coming))]
     pub(crate) fn coming<const COPY: usize>(&mut self) -> Result<Ahead, Refusal>
-        ensures { Finds (coming R.DeRead.lends (body_of R.DeRead.view self.old)) result (awaited result (body_of R.DeRead.view self.new)) }
+        ensures { Finds (coming R.DeRead.lends (body_of R.DeRead.view self.old)) result (settled result (body_of R.DeRead.view self.new)) }
     {
         if let Some(text) = self.unread {
             return Ok(Ahead::Text(text));

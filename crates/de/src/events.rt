@@ -47,14 +47,6 @@ impl<R: DeRead> Events<R> {
         self.passed = self.passed.saturating_add(1);
     }
 
-    // A value has begun.
-    pub(crate) fn pass_value(&mut self)
-        ensures { body_of R.DeRead.view self.new ≡ behind (body_of R.DeRead.view self.old) (body_of R.DeRead.view self.old).reader (filled (body_of R.DeRead.view self.old).opens) }
-    {
-        self.opens.fill();
-        self.pass();
-    }
-
     // The header of a PDU; its one value is to come.
     pub(crate) fn open(&mut self) -> Result<Header, Refusal>
         ensures told { HeaderTold (header_read R.DeRead.lends (body_of R.DeRead.view self.old).reader) (body_of R.DeRead.view self.old) result (body_of R.DeRead.view self.new) }

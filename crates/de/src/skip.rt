@@ -36,7 +36,10 @@ impl<R: DeRead> Events<R> {
     {
         match self.coming::<2>()? {
             Ahead::Nothing => Ok(false),
-            Ahead::Passed(_) => Ok(true),
+            Ahead::Passed(_) => {
+                self.pass();
+                Ok(true)
+            }
             Ahead::Text(text) => self.skip_text(text),
             Ahead::Column => {
                 self.opens.turn();

@@ -1,7 +1,7 @@
 //! Templates, behind a tag that was shown, and their rows.
 ghost use Rattle.std.specs.Prelude.{◌<◌, Ok};
 ghost use Rattle.room.specs.Open.{depth, row_turned};
-ghost use Rattle.de.specs.Steps.{awaited, template_comes, rows_come, turns, found, Finds};
+ghost use Rattle.de.specs.Steps.{template_comes, rows_come, turns, found, Finds, settled};
 ghost use Rattle.de.specs.Held.{body_of};
 ghost use Rattle.de.specs.declared.event.Ahead.TheVariants.{Passed};
 ghost use Rattle.de.specs.declared.event.Event.TheVariants.{ArrayBegin};
@@ -16,7 +16,7 @@ impl<R: DeRead> Events<R> {
     #[tactic(auto, using(crate::proofs::Finding::then_finds, crate::proofs::Finding::stop_finds), unfolding(crate::specs::Steps::rows_come))]
     fn rows(&mut self) -> Result<(), Refusal>
         requires { depth self.old.opens.opens < 128 }
-        ensures { Finds (rows_come R.DeRead.lends self.old.opens.listed (body_of R.DeRead.view self.old) (body_of R.DeRead.view self.old).reader) (found (λ _. Passed ArrayBegin) result) (body_of R.DeRead.view self.new) }
+        ensures { Finds (rows_come R.DeRead.lends self.old.opens.listed (body_of R.DeRead.view self.old) (body_of R.DeRead.view self.old).reader) (found (λ _. Passed ArrayBegin) result) (settled (found (λ _. Passed ArrayBegin) result) (body_of R.DeRead.view self.new)) }
     {
         let place = self.bunser.read_count();
         let n = self.bunser.placed_count::<0>()?;
@@ -27,13 +27,12 @@ impl<R: DeRead> Events<R> {
             });
         }
         self.opens.rows(n);
-        self.pass();
         Ok(())
     }
 
     #[tactic(auto, using(crate::proofs::Finding::then_finds, crate::proofs::Finding::stop_finds), unfolding(crate::specs::Steps::template_comes))]
     pub(crate) fn template(&mut self) -> Result<(), Refusal>
-        ensures { Finds (template_comes R.DeRead.lends (body_of R.DeRead.view self.old)) (found (λ _. Passed ArrayBegin) result) (body_of R.DeRead.view self.new) }
+        ensures { Finds (template_comes R.DeRead.lends (body_of R.DeRead.view self.old)) (found (λ _. Passed ArrayBegin) result) (settled (found (λ _. Passed ArrayBegin) result) (body_of R.DeRead.view self.new)) }
     {
         if !self.opens.is_free() {
             return Err(self.too_deep());
@@ -45,10 +44,9 @@ impl<R: DeRead> Events<R> {
 
     // A row begins or ends.
     pub(crate) fn turn(&mut self, event: Event) -> Ahead
-        ensures { Finds (turns event (body_of R.DeRead.view self.old) (row_turned (body_of R.DeRead.view self.old).opens)) (Ok result) (awaited (Ok result) (body_of R.DeRead.view self.new)) }
+        ensures { Finds (turns event (body_of R.DeRead.view self.old) (row_turned (body_of R.DeRead.view self.old).opens)) (Ok result) (settled (Ok result) (body_of R.DeRead.view self.new)) }
     {
         self.opens.turn();
-        self.pass();
         Ahead::Passed(event)
     }
 }

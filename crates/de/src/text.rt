@@ -102,7 +102,10 @@ impl<R: DeRead> Events<R> {
     {
         match self.coming::<1>()? {
             Ahead::Nothing => Ok(None),
-            Ahead::Passed(event) => Ok(Some(event)),
+            Ahead::Passed(event) => {
+                self.pass();
+                Ok(Some(event))
+            }
             Ahead::Text(text) => self.read_text(text, buf),
             Ahead::Column => self.read_column(buf),
         }
