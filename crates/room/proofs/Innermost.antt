@@ -109,9 +109,11 @@ module _ (r : Inside) (kept : Kept r) where
     pushed_kept = record {
       all = ap length put ∙ length-set r.frames n r.top ∙ kept.all;
       free = let k = kept.free in omega arith;
-      stacked = subst (λ k. Stacked f frames k own) (sym one_more)
-          (ends, subst (λ g. Stacked g frames n (below f own)) (sym next_below)
-          (subst (λ l. Stacked r.top l n (below f own)) (sym put) (stacked_set r.top r.frames n r.top n (below f own) (omega arith) (subst (Stacked r.top r.frames n) (sym under) kept.stacked))));
+      stacked = subst (λ k. Stacked f frames k own) (sym one_more) (
+        ends,
+        subst (λ g. Stacked g frames n (below f own)) (sym next_below)
+            (subst (λ l. Stacked r.top l n (below f own)) (sym put) (stacked_set r.top r.frames n r.top n (below f own) (omega arith) (subst (Stacked r.top r.frames n) (sym under) kept.stacked))),
+      );
       own = held;
       few = kept.few;
       rows =
