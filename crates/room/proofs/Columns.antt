@@ -39,10 +39,10 @@ module _ (held : List Column) (s : List (Open Column)) where
   found_column (frame.Pairs n) i x rest fits is e = absurd (cc)
   found_column (frame.Field n) i x rest fits is e = absurd (cc)
   found_column (frame.Rows t n) i x rest fits is e = absurd (cc)
-  found_column (frame.Cell t j n) i x rest fits is e = absurd (cc)
-  found_column (frame.Row t j n) i x rest fits is e = go (ltb j t.len) refl is
+  found_column (frame.Cell t n j) i x rest fits is e = absurd (cc)
+  found_column (frame.Row t n j) i x rest fits is e = go (ltb j t.len) refl is
     where
-      go : (b : Bool) → ltb j t.len ≡ b → Some i ≡ cond b (Some (t.first + j)) None → x ≡ column (over held (frame.Row t j n) s)
+      go : (b : Bool) → ltb j t.len ≡ b → Some i ≡ cond b (Some (t.first + j)) None → x ≡ column (over held (frame.Row t n j) s)
       go false q is = absurd (cc)
       go true q is =
           let more = ltb-true j t.len q in
@@ -56,10 +56,10 @@ module _ (held : List Column) (s : List (Open Column)) where
   no_column (frame.Pairs n) fits is = refl
   no_column (frame.Field n) fits is = refl
   no_column (frame.Rows t n) fits is = refl
-  no_column (frame.Cell t j n) fits is = refl
-  no_column (frame.Row t j n) fits is = go (ltb j t.len) refl is
+  no_column (frame.Cell t n j) fits is = refl
+  no_column (frame.Row t n j) fits is = go (ltb j t.len) refl is
     where
-      go : (b : Bool) → ltb j t.len ≡ b → None ≡ cond b (Some (t.first + j)) None → copied [] ≡ column (over held (frame.Row t j n) s)
+      go : (b : Bool) → ltb j t.len ≡ b → None ≡ cond b (Some (t.first + j)) None → copied [] ≡ column (over held (frame.Row t n j) s)
       go true q is = absurd (cc)
       go false q is =
           let long = ltb-false j t.len q in

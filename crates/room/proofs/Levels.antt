@@ -25,8 +25,8 @@ depth_over held (frame.Items n) own s h = refl
 depth_over held (frame.Pairs n) own s h = refl
 depth_over held (frame.Field n) own s h = refl
 depth_over held (frame.Rows t n) own s h = refl
-depth_over held (frame.Row t i n) own s h = refl
-depth_over held (frame.Cell t i n) own s h = refl
+depth_over held (frame.Row t n i) own s h = refl
+depth_over held (frame.Cell t n i) own s h = refl
 
 nesting_over : (held : List Column) (f : Frame) (own : ℕ) (s : List (Open Column)) → Ends f own → nesting (over held f s) ≡ suc (in_row f + nesting s)
 nesting_over held frame.Done own s h = absurd h
@@ -35,8 +35,8 @@ nesting_over held (frame.Items n) own s h = ap suc (omega arith)
 nesting_over held (frame.Pairs n) own s h = ap suc (omega arith)
 nesting_over held (frame.Field n) own s h = ap suc (omega arith)
 nesting_over held (frame.Rows t n) own s h = ap suc (omega arith)
-nesting_over held (frame.Row t i n) own s h = ap suc (omega arith)
-nesting_over held (frame.Cell t i n) own s h = ap suc (omega arith)
+nesting_over held (frame.Row t n i) own s h = ap suc (omega arith)
+nesting_over held (frame.Cell t n i) own s h = ap suc (omega arith)
 
 pub ended_over : (held : List Column) (f : Frame) (own : ℕ) (s : List (Open Column)) → Ends f own → ended (over held f s) ≡ s
 ended_over held frame.Done own s h = absurd h
@@ -45,8 +45,8 @@ ended_over held (frame.Items n) own s h = refl
 ended_over held (frame.Pairs n) own s h = refl
 ended_over held (frame.Field n) own s h = refl
 ended_over held (frame.Rows t n) own s h = refl
-ended_over held (frame.Row t i n) own s h = refl
-ended_over held (frame.Cell t i n) own s h = refl
+ended_over held (frame.Row t n i) own s h = refl
+ended_over held (frame.Cell t n i) own s h = refl
 
 pub below_less : (f : Frame) (own : ℕ) → Ends f own → below f own ≤ own
 below_less frame.Done own h = absurd h
@@ -55,8 +55,8 @@ below_less (frame.Items n) own h = omega arith
 below_less (frame.Pairs n) own h = omega arith
 below_less (frame.Field n) own h = omega arith
 below_less (frame.Rows t n) own h = omega arith
-below_less (frame.Row t i n) own h = omega arith
-below_less (frame.Cell t i n) own h = omega arith
+below_less (frame.Row t n i) own h = omega arith
+below_less (frame.Cell t n i) own h = omega arith
 
 ends_fit : (held : List Column) (f : Frame) (own : ℕ) → Ends f own → own ≤ length held → Fits held f
 ends_fit held frame.Done own h le = absurd h
@@ -65,8 +65,8 @@ ends_fit held (frame.Items n) own h le = tt
 ends_fit held (frame.Pairs n) own h le = tt
 ends_fit held (frame.Field n) own h le = tt
 ends_fit held (frame.Rows t n) own h le = omega arith
-ends_fit held (frame.Row t i n) own h le = omega arith
-ends_fit held (frame.Cell t i n) own h le = omega arith
+ends_fit held (frame.Row t n i) own h le = omega arith
+ends_fit held (frame.Cell t n i) own h le = omega arith
 
 pub fits_limited : (held : List Column) (f : Frame) → Fits held f → length held ≤ 256 → Limited f
 fits_limited held frame.Done h le = tt
@@ -75,8 +75,8 @@ fits_limited held (frame.Items n) h le = tt
 fits_limited held (frame.Pairs n) h le = tt
 fits_limited held (frame.Field n) h le = tt
 fits_limited held (frame.Rows t n) h le = omega arith
-fits_limited held (frame.Row t i n) h le = omega arith
-fits_limited held (frame.Cell t i n) h le = omega arith
+fits_limited held (frame.Row t n i) h le = omega arith
+fits_limited held (frame.Cell t n i) h le = omega arith
 
 -- ---- one frame of the body itself
 
@@ -96,8 +96,8 @@ ground (frame.Items n) h = absurd h
 ground (frame.Pairs n) h = absurd h
 ground (frame.Field n) h = absurd h
 ground (frame.Rows t n) h = absurd h
-ground (frame.Row t i n) h = absurd h
-ground (frame.Cell t i n) h = absurd h
+ground (frame.Row t n i) h = absurd h
+ground (frame.Cell t n i) h = absurd h
 
 -- ---- one frame, and the keys that are held
 
@@ -117,8 +117,8 @@ open_same held held' f own s = go f
     go (frame.Pairs n) h e = refl
     go (frame.Field n) h e = refl
     go (frame.Rows t n) h e = ap (λ l. rows l n ∷ s) (same t h e)
-    go (frame.Row t i n) h e = ap (λ l. row (drop i l) l n ∷ s) (same t h e)
-    go (frame.Cell t i n) h e = ap (λ l. cell (drop i l) l n ∷ s) (same t h e)
+    go (frame.Row t n i) h e = ap (λ l. row (drop i l) l n ∷ s) (same t h e)
+    go (frame.Cell t n i) h e = ap (λ l. cell (drop i l) l n ∷ s) (same t h e)
 
 pub depth_filled : (s : List (Open Column)) → depth (filled s) ≡ depth s
 depth_filled [] = refl
@@ -145,8 +145,8 @@ columnless (frame.Items n) h = record { ends = λ own. tt; under = λ own. refl;
 columnless (frame.Pairs n) h = record { ends = λ own. tt; under = λ own. refl; no_row = refl; same = λ a b s. refl }
 columnless (frame.Field n) h = absurd h
 columnless (frame.Rows t n) h = absurd h
-columnless (frame.Row t i n) h = absurd h
-columnless (frame.Cell t i n) h = absurd h
+columnless (frame.Row t n i) h = absurd h
+columnless (frame.Cell t n i) h = absurd h
 
 -- ---- all frames
 
@@ -174,8 +174,8 @@ in_row_few (frame.Items n) = omega arith
 in_row_few (frame.Pairs n) = omega arith
 in_row_few (frame.Field n) = omega arith
 in_row_few (frame.Rows t n) = omega arith
-in_row_few (frame.Row t i n) = omega arith
-in_row_few (frame.Cell t i n) = omega arith
+in_row_few (frame.Row t n i) = omega arith
+in_row_few (frame.Cell t n i) = omega arith
 
 pub rows_few : (f : Frame) (fs : List Frame) (n : ℕ) → rows_in f fs n ≤ n
 rows_few f fs zero = omega arith
@@ -243,8 +243,8 @@ module _ (held : List Column) where
   keys_over (frame.Pairs n) own s h le k = k
   keys_over (frame.Field n) own s h le k = k
   keys_over (frame.Rows t n) own s h le k = let l = columns_long t own h le in omega arith
-  keys_over (frame.Row t i n) own s h le k = let l = columns_long t own h le in omega arith
-  keys_over (frame.Cell t i n) own s h le k = let l = columns_long t own h le in omega arith
+  keys_over (frame.Row t n i) own s h le k = let l = columns_long t own h le in omega arith
+  keys_over (frame.Cell t n i) own s h le k = let l = columns_long t own h le in omega arith
 
   pub keys_in : (f : Frame) (fs : List Frame) (n own : ℕ) → Stacked f fs n own → own ≤ length held → keys_held (opens_in held f fs n) ≡ own
   keys_in f fs zero own h le = (ground f h.0).no_keys held ∙ sym h.1
@@ -262,8 +262,8 @@ module _ (held : List Column) where
   bytes_over (frame.Pairs n) own s h k = k
   bytes_over (frame.Field n) own s h k = k
   bytes_over (frame.Rows t n) own s h k = let l = front_bytes t own h in omega arith
-  bytes_over (frame.Row t i n) own s h k = let l = front_bytes t own h in omega arith
-  bytes_over (frame.Cell t i n) own s h k = let l = front_bytes t own h in omega arith
+  bytes_over (frame.Row t n i) own s h k = let l = front_bytes t own h in omega arith
+  bytes_over (frame.Cell t n i) own s h k = let l = front_bytes t own h in omega arith
 
   pub bytes_in : (f : Frame) (fs : List Frame) (n own : ℕ) → Stacked f fs n own → bytes_held column_bytes (opens_in held f fs n) ≡ column_bytes (take own held)
   bytes_in f fs zero own h = (ground f h.0).no_bytes held ∙ sym (ap (λ n. column_bytes (take n held)) h.1)

@@ -16,8 +16,8 @@ over held (frame.Items n) s = items n ∷ s
 over held (frame.Pairs n) s = pairs n ∷ s
 over held (frame.Field n) s = field n ∷ s
 over held (frame.Rows t n) s = rows (columns held t) n ∷ s
-over held (frame.Row t i n) s = row (drop i (columns held t)) (columns held t) n ∷ s
-over held (frame.Cell t i n) s = cell (drop i (columns held t)) (columns held t) n ∷ s
+over held (frame.Row t n i) s = row (drop i (columns held t)) (columns held t) n ∷ s
+over held (frame.Cell t n i) s = cell (drop i (columns held t)) (columns held t) n ∷ s
 
 -- the columns of a template are there
 abbrev pub Fits : List Column → Frame → Type 0
@@ -27,8 +27,8 @@ Fits held (frame.Items n) = Unit {0}
 Fits held (frame.Pairs n) = Unit {0}
 Fits held (frame.Field n) = Unit {0}
 Fits held (frame.Rows t n) = t.first + t.len ≤ length held
-Fits held (frame.Row t i n) = t.first + t.len ≤ length held
-Fits held (frame.Cell t i n) = t.first + t.len ≤ length held
+Fits held (frame.Row t n i) = t.first + t.len ≤ length held
+Fits held (frame.Cell t n i) = t.first + t.len ≤ length held
 
 -- where the columns of a frame end there, those of the frames below end here
 abbrev pub below : Frame → ℕ → ℕ
@@ -38,8 +38,8 @@ below (frame.Items n) own = own
 below (frame.Pairs n) own = own
 below (frame.Field n) own = own
 below (frame.Rows t n) own = t.first
-below (frame.Row t i n) own = t.first
-below (frame.Cell t i n) own = t.first
+below (frame.Row t n i) own = t.first
+below (frame.Cell t n i) own = t.first
 
 -- the frame is one of the body itself, below all levels
 abbrev pub Ground : Frame → Type 0
@@ -49,8 +49,8 @@ Ground (frame.Items n) = ⊥
 Ground (frame.Pairs n) = ⊥
 Ground (frame.Field n) = ⊥
 Ground (frame.Rows t n) = ⊥
-Ground (frame.Row t i n) = ⊥
-Ground (frame.Cell t i n) = ⊥
+Ground (frame.Row t n i) = ⊥
+Ground (frame.Cell t n i) = ⊥
 
 -- the frame is one of a level, whose columns end there
 abbrev pub Ends : Frame → ℕ → Type 0
@@ -60,8 +60,8 @@ Ends (frame.Items n) own = Unit {0}
 Ends (frame.Pairs n) own = Unit {0}
 Ends (frame.Field n) own = Unit {0}
 Ends (frame.Rows t n) own = t.first + t.len ≡ own
-Ends (frame.Row t i n) own = t.first + t.len ≡ own
-Ends (frame.Cell t i n) own = t.first + t.len ≡ own
+Ends (frame.Row t n i) own = t.first + t.len ≡ own
+Ends (frame.Cell t n i) own = t.first + t.len ≡ own
 
 -- another frame of the same level, over the same columns
 pub record Over (f g : Frame) : Type 0 where
@@ -77,8 +77,8 @@ in_row (frame.Items n) = 0
 in_row (frame.Pairs n) = 0
 in_row (frame.Field n) = 0
 in_row (frame.Rows t n) = 0
-in_row (frame.Row t i n) = 1
-in_row (frame.Cell t i n) = 1
+in_row (frame.Row t n i) = 1
+in_row (frame.Cell t n i) = 1
 
 -- a frame's columns end within key room
 abbrev pub Limited : Frame → Type 0
@@ -88,8 +88,8 @@ Limited (frame.Items n) = Unit {0}
 Limited (frame.Pairs n) = Unit {0}
 Limited (frame.Field n) = Unit {0}
 Limited (frame.Rows t n) = t.first + t.len ≤ 256
-Limited (frame.Row t i n) = t.first + t.len ≤ 256
-Limited (frame.Cell t i n) = t.first + t.len ≤ 256
+Limited (frame.Row t n i) = t.first + t.len ≤ 256
+Limited (frame.Cell t n i) = t.first + t.len ≤ 256
 
 -- where key room has the key that comes next
 abbrev pub column_at : Frame → Option ℕ
@@ -99,8 +99,8 @@ column_at (frame.Items n) = None
 column_at (frame.Pairs n) = None
 column_at (frame.Field n) = None
 column_at (frame.Rows t n) = None
-column_at (frame.Row t i n) = cond (nat_lt i t.len) (Some (t.first + i)) None
-column_at (frame.Cell t i n) = None
+column_at (frame.Row t n i) = cond (nat_lt i t.len) (Some (t.first + i)) None
+column_at (frame.Cell t n i) = None
 
 -- an array or an object before its first
 abbrev pub Plain : Frame → Type 0
@@ -110,5 +110,5 @@ Plain (frame.Items n) = Unit {0}
 Plain (frame.Pairs n) = Unit {0}
 Plain (frame.Field n) = ⊥
 Plain (frame.Rows t n) = ⊥
-Plain (frame.Row t i n) = ⊥
-Plain (frame.Cell t i n) = ⊥
+Plain (frame.Row t n i) = ⊥
+Plain (frame.Cell t n i) = ⊥

@@ -27,7 +27,8 @@ pub(crate) enum Frame {
     Field(usize),
     /// A template before a row, with so many rows to come.
     Rows(Table, usize),
-    /// A template in a row, before the key of the column at an index, with so many rows to come.
+    // The index stands last, so that the number of rows stays where it is when a row begins and ends.
+    /// A template in a row, with so many rows to come, before the key of the column at an index.
     Row(Table, usize, usize),
     /// The same before the cell in front of the column at an index.
     Cell(Table, usize, usize),
@@ -44,7 +45,7 @@ impl Frame {
             Frame::Pairs(0) => Due::MapEnd,
             Frame::Pairs(_) => Due::MapKey,
             Frame::Rows(_, _) => Due::RowBegin,
-            Frame::Row(table, next, _) if next >= table.len => Due::RowEnd,
+            Frame::Row(table, _, next) if next >= table.len => Due::RowEnd,
             Frame::Row(_, _, _) => Due::RowKey,
             Frame::Cell(_, _, _) => Due::Cell,
         }
@@ -60,7 +61,7 @@ impl Frame {
             Frame::Start => *self = Frame::Done,
             Frame::Items(left) => *self = Frame::Items(left.saturating_sub(1)),
             Frame::Field(left) => *self = Frame::Pairs(left),
-            Frame::Cell(table, next, left) => *self = Frame::Row(table, next, left),
+            Frame::Cell(table, left, next) => *self = Frame::Row(table, left, next),
             _ => {}
         }
     }
@@ -84,11 +85,11 @@ impl Frame {
         ensures over { Over self.old self.new }
     {
         match *self {
-            Frame::Rows(table, left) if left > 0 => *self = Frame::Row(table, 0, left - 1),
-            Frame::Row(table, next, left) if next < table.len => {
-                *self = Frame::Cell(table, next + 1, left);
+            Frame::Rows(table, left) if left > 0 => *self = Frame::Row(table, left - 1, 0),
+            Frame::Row(table, left, next) if next < table.len => {
+                *self = Frame::Cell(table, left, next + 1);
             }
-            Frame::Row(table, _, left) => *self = Frame::Rows(table, left),
+            Frame::Row(table, left, _) => *self = Frame::Rows(table, left),
             _ => {}
         }
     }
@@ -120,7 +121,7 @@ impl Frame {
         ensures { result ≡ column_at self.now }
     {
         match *self {
-            Frame::Row(table, next, _) if next < table.len => Some(table.first + next),
+            Frame::Row(table, _, next) if next < table.len => Some(table.first + next),
             _ => None,
         }
     }
