@@ -5,3 +5,5 @@ pub mod Falling
 pub mod Awaiting
 pub mod Passing
 pub mod Skipping
+pub mod Rows
+pub mod RowPass

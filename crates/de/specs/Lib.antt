@@ -6,3 +6,4 @@ pub mod Held
 pub mod Decoding
 pub mod Turns
 pub mod Rooms
+pub mod Rows

@@ -13,7 +13,7 @@ use read::DeRead;
 use room::due::Due;
 
 // What begins with the tag of byte strings, or else with that of texts.
-fn kind_of(tag: Tag) -> TextKind
+pub(crate) fn kind_of(tag: Tag) -> TextKind
     ensures { result ≡ kind_of tag }
 {
     match tag {

@@ -34,6 +34,26 @@ pub enum Ahead {
     Column,
 }
 
+/// What a cell is that is passed over, before the bytes of a text are.
+#[derive(Clone, Copy, PartialEq, Eq, Debug)]
+pub enum Plain {
+    /// It is no plain one: a container, or something that is read by itself. Its tag was shown alone.
+    Other,
+    /// A value or a gap, which is taken.
+    Passed(Event),
+    /// A text, whose bytes are to come.
+    Text(Unread),
+}
+
+/// How far a row was passed over, and how many events that is.
+#[derive(Clone, Copy, PartialEq, Eq, Debug)]
+pub enum RowPass {
+    /// All of it.
+    Whole(usize),
+    /// Up to a cell that is no plain one.
+    Part(usize),
+}
+
 /// A call was refused. The decoder tells the refusal with its place and its cause.
 #[derive(Clone, Copy, PartialEq, Eq, Debug)]
 pub struct Refused {

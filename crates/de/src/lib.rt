@@ -11,6 +11,7 @@ pub mod events;
 mod item;
 mod made;
 pub mod pdu;
+mod row;
 mod skip;
 mod template;
 mod text;

@@ -4,7 +4,7 @@ ghost use Rattle.de.specs.Steps.{awaiting, text_step, step};
 ghost use Rattle.de.specs.Calls.{PassesOver, Skip};
 ghost use Rattle.de.specs.Held.{body_of};
 
-use super::event::Ahead;
+use super::event::{Ahead, RowPass};
 use super::events::Events;
 use bunser::placed;
 use bunser::text::{TextKind, Unread};
@@ -55,6 +55,14 @@ impl<R: DeRead> Events<R> {
     {
         let down = self.opens.nesting();
         let mut passed = 0usize;
+        if self.unread.is_none()
+            && let Some(columns) = self.opens.row_columns()
+        {
+            match self.skip_row(columns)? {
+                RowPass::Whole(events) => return Ok(events),
+                RowPass::Part(events) => passed = events,
+            }
+        }
         while self.skip_one()? {
             passed = passed.saturating_add(1);
             if self.opens.nesting() <= down {

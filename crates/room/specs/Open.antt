@@ -1,5 +1,5 @@
 -- What is open of a body, the innermost first, and how each event changes it.
-use Rattle.std.specs.Prelude.{ℕ, zero, suc, ◌+◌, List, [], ◌∷◌, length}
+use Rattle.std.specs.Prelude.{ℕ, zero, suc, ◌+◌, List, [], ◌∷◌, length, drop, Some, None, Option}
 use Rattle.room.specs.declared.due.Due.{Due}
 use Rattle.room.specs.declared.due.Due.TheVariants.{Done, Value, Cell, MapKey, RowBegin, RowKey, RowEnd, MapEnd, ArrayEnd}
 
@@ -79,6 +79,42 @@ row_turned (rows ks (suc n) ∷ s) = row ks ks n ∷ s
 row_turned (row [] ks n ∷ s) = rows ks n ∷ s
 row_turned (row (k ∷ l) ks n ∷ s) = cell l ks n ∷ s
 row_turned (cell l ks n ∷ s) = cell l ks n ∷ s
+
+-- the columns of the template of which a row begins next
+abbrev pub row_columns : {C : Type 0} → List (Open C) → Option ℕ
+row_columns [] = None
+row_columns (start ∷ s) = None
+row_columns (items n ∷ s) = None
+row_columns (pairs n ∷ s) = None
+row_columns (field n ∷ s) = None
+row_columns (rows ks zero ∷ s) = None
+row_columns (rows ks (suc n) ∷ s) = Some (length ks)
+row_columns (row l ks n ∷ s) = None
+row_columns (cell l ks n ∷ s) = None
+
+-- the row that begins next has begun, and so many cells of it have passed
+abbrev pub within_row : {C : Type 0} → ℕ → List (Open C) → List (Open C)
+within_row k [] = []
+within_row k (start ∷ s) = start ∷ s
+within_row k (items n ∷ s) = items n ∷ s
+within_row k (pairs n ∷ s) = pairs n ∷ s
+within_row k (field n ∷ s) = field n ∷ s
+within_row k (rows ks zero ∷ s) = rows ks zero ∷ s
+within_row k (rows ks (suc n) ∷ s) = row (drop k ks) ks n ∷ s
+within_row k (row l ks n ∷ s) = row l ks n ∷ s
+within_row k (cell l ks n ∷ s) = cell l ks n ∷ s
+
+-- the row that begins next has passed
+abbrev pub past_row : {C : Type 0} → List (Open C) → List (Open C)
+past_row [] = []
+past_row (start ∷ s) = start ∷ s
+past_row (items n ∷ s) = items n ∷ s
+past_row (pairs n ∷ s) = pairs n ∷ s
+past_row (field n ∷ s) = field n ∷ s
+past_row (rows ks zero ∷ s) = rows ks zero ∷ s
+past_row (rows ks (suc n) ∷ s) = rows ks n ∷ s
+past_row (row l ks n ∷ s) = row l ks n ∷ s
+past_row (cell l ks n ∷ s) = cell l ks n ∷ s
 
 -- the column whose key comes next
 abbrev pub column : List (Open Column) → Column

@@ -1,6 +1,6 @@
 //! What stands innermost of a body, and how its events change it.
-ghost use Rattle.std.specs.Prelude.{◌≡◌, ◌+◌, ◌≤◌, List, ◌∷◌, length};
-ghost use Rattle.room.specs.Open.{Column, Open, due, filled, keyed, row_turned};
+ghost use Rattle.std.specs.Prelude.{◌≡◌, ◌+◌, ◌≤◌, List, ◌∷◌, length, MatchOption};
+ghost use Rattle.room.specs.Open.{Column, Open, due, filled, keyed, row_turned, row_columns, within_row, past_row};
 ghost use Rattle.room.specs.Frames.{over, Fits, Limited, Over, column_at, below, in_row};
 
 use super::due::Due;
@@ -91,6 +91,43 @@ impl Frame {
             }
             Frame::Row(table, left, _) => *self = Frame::Rows(table, left),
             _ => {}
+        }
+    }
+
+    // How many columns the row has that begins next.
+    pub(crate) fn row_columns(&self) -> Option<usize>
+        requires { Limited self.now }
+        ensures few { MatchOption result (Unit {0}) (λ n. n ≤ 256) }
+        ensures told { (held : List Column) (s : List (Open Column)) → Fits held self.now → result ≡ row_columns (over held self.now s) }
+    {
+        match *self {
+            Frame::Rows(table, left) if left > 0 => Some(table.len),
+            _ => None,
+        }
+    }
+
+    // The row that begins next has begun, and so many cells of it have passed.
+    pub(crate) fn enter_row(&mut self, cells: usize)
+        ensures turns { (held : List Column) (s : List (Open Column)) → within_row cells (over held self.old s) ≡ over held self.new s }
+        ensures over { Over self.old self.new }
+    {
+        if let Frame::Rows(table, left) = *self
+            && left > 0
+        {
+            *self = Frame::Row(table, left - 1, cells);
+        }
+    }
+
+    // The row that begins next has passed.
+    pub(crate) fn pass_row(&mut self)
+        ensures turns { (held : List Column) (s : List (Open Column)) → past_row (over held self.old s) ≡ over held self.new s }
+        ensures over { Over self.old self.new }
+        ensures rows { in_row self.new ≡ in_row self.old }
+    {
+        if let Frame::Rows(table, left) = *self
+            && left > 0
+        {
+            *self = Frame::Rows(table, left - 1);
         }
     }
 

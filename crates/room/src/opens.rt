@@ -1,7 +1,7 @@
 //! What is open of a body, in fixed memory.
-ghost use Rattle.std.specs.Prelude.{◌≡◌, ◌+◌, ◌-◌, ◌<◌, ◌≤◌, List, [], ◌∷◌, length, set, nat_lt};
+ghost use Rattle.std.specs.Prelude.{◌≡◌, ◌+◌, ◌-◌, ◌<◌, ◌≤◌, List, [], ◌∷◌, length, set, nat_lt, MatchOption};
 ghost use Rattle.bunser.specs.Outcome.{BodyRead};
-ghost use Rattle.room.specs.Open.{Open, start, items, pairs, rows, due, filled, keyed, row_turned, ended, column, depth, nesting, keys_held, bytes_held, column_bytes};
+ghost use Rattle.room.specs.Open.{Open, start, items, pairs, rows, due, filled, keyed, row_turned, row_columns, within_row, past_row, ended, column, depth, nesting, keys_held, bytes_held, column_bytes};
 ghost use Rattle.room.specs.KeyList.{listed_read, key_list_read, KeysTold, ListTold};
 ghost use Rattle.room.specs.Opened.{with_opens, if_free};
 ghost use Rattle.room.specs.Frames.{over, Plain};
@@ -164,6 +164,30 @@ impl Opens {
         let rows = self.rows - self.top.rows();
         self.top.turn();
         self.rows = rows + self.top.rows();
+    }
+
+    /// How many columns the row has that begins next, if one does.
+    pub fn row_columns(&self) -> Option<usize>
+        ensures told { result ≡ row_columns self.now.opens }
+        ensures few { MatchOption result (Unit {0}) (λ n. n ≤ 256) }
+    {
+        self.top.row_columns()
+    }
+
+    /// The row that begins next has begun, and so many cells of it have passed.
+    pub fn enter_row(&mut self, cells: usize)
+        ensures { self.new ≡ with_opens self.old (within_row cells self.old.opens) }
+    {
+        let rows = self.rows - self.top.rows();
+        self.top.enter_row(cells);
+        self.rows = rows + self.top.rows();
+    }
+
+    /// The row that begins next has passed.
+    pub fn pass_row(&mut self)
+        ensures { self.new ≡ with_opens self.old (past_row self.old.opens) }
+    {
+        self.top.pass_row();
     }
 
     // The innermost level is given back.

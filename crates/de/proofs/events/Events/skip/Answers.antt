@@ -11,7 +11,7 @@ pub returns-in_err-skip_one : goal.returns-in_err-skip_one
 returns-in_err-skip_one g c =
     let b = body_of g.R.DeRead.view c.loop-passed.self in
     let d = body_of g.R.DeRead.view c.skip_one.new.self in
-    c.loop-passed.invariant c.from_residual.result d (skip_stuck g.R.DeRead.lends (nesting c.args.self.now.opens.opens) c.loop-passed.passed b d c.in_err-skip_one.field-0.0 c.from_residual.result c.in_err-skip_one.ensures c.from_residual.ensures.1)
+    c.loop-passed.invariant c.from_residual-in_err-skip_one.result d (skip_stuck g.R.DeRead.lends (nesting c.args.self.now.opens.opens) c.loop-passed.passed b d c.in_err-skip_one.field-0.0 c.from_residual-in_err-skip_one.result c.in_err-skip_one.ensures c.from_residual-in_err-skip_one.ensures.1)
 
 pub returns-then-nesting-down : goal.returns-then-nesting-down
 returns-then-nesting-down g c =
