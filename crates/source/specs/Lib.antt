@@ -1,3 +1,4 @@
 pub mod Bytes
 pub mod Feed
 pub mod Sound
+pub mod Examples

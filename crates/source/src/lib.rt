@@ -2,6 +2,7 @@
 #![tactic(auto)]
 
 ghost use Rattle.std.specs.Prelude.{◌≡◌, length};
+ghost use Rattle.source.specs.Examples.{SourceExamples};
 ghost use Rattle.source.specs.Feed.{Feed, Sound, Read, Fill};
 
 pub mod chain;
@@ -40,3 +41,8 @@ pub fn read_exact<S: Source>(source: &mut S, buf: &mut [u8]) -> Result<(), FillE
     }
     Ok(())
 }
+
+/// Worked examples of what comes of a source hold of its definitions.
+pub fn examples_hold()
+    ensures { SourceExamples }
+{}
