@@ -2,3 +2,4 @@ pub mod Reader
 pub mod Held
 pub mod Sound
 pub mod Slice
+pub mod Assured

@@ -2,6 +2,7 @@
 #![tactic(auto)]
 
 ghost use Rattle.std.specs.Prelude.{◌≡◌, ◌+◌, Bool, Some, None, MatchOption};
+ghost use Rattle.read.specs.Assured.{EveryReader};
 ghost use Rattle.read.specs.Reader.{View, Sound, past, fault_of, Peek, Next, discarded, NextBytes, kept_at, part_of, lent_part, allowed};
 
 use source::{FillError, SourceFault};
@@ -121,3 +122,8 @@ pub trait DeRead {
     fn lends(&self) -> bool
         ensures { result ≡ lends };
 }
+
+/// Every reader gives bytes, keeps bytes, has the byte that it peeked, and tells a fault by its code.
+pub fn every_reader_assures()
+    ensures { EveryReader }
+{}
