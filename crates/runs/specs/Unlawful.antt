@@ -48,6 +48,16 @@ gave = told (call.Next 0) (answer.Gave event.Null) 9 1 1
 abbrev pub closed : Answer
 closed = answer.Closed (record { events = 1; length = 1 })
 
+-- a PDU whose body goes on behind its null
+abbrev pub two_pdu : View
+two_pdu = slice (pdu (0x0a ∷ 0x0a ∷ []))
+
+abbrev pub two_extent : Extent
+two_extent = record { start = 8; length = 2 }
+
+abbrev pub two_opened : Moment
+two_opened = told call.Open (answer.Opened (record { capabilities = 0; start = 8; length = 2 })) 8 0 0
+
 -- behind these moments this one cannot be told
 abbrev pub first : Moment → List Moment
 first m = m ∷ []
@@ -80,10 +90,17 @@ RulesOut lends = record {
   next_takes : Unlawful lends null_pdu (first (told (call.Next 0) (refused cause.OutOfTurn 0) 1 0 0));
   next_elsewhere : Unlawful lends null_pdu (first (told (call.Next 0) (refused cause.OutOfTurn 1) 0 0 0));
   close_takes : Unlawful lends null_pdu (behind_event (told (call.Close extent) closed 10 1 1));
+  close_elsewhere : Unlawful lends null_pdu (behind_open (told (call.Close (record { start = 8; length = 2 })) (refused cause.Token 7) 8 0 0));
   -- a header is accepted where it stands, and only there
   header_there : Unlawful lends null_pdu (first (told call.Open (refused (cause.Read error.Negative) 6) 8 0 0));
   no_header : Unlawful lends (slice []) (first opened);
-  -- before a PDU is opened nothing is counted
+  -- behind a refusal for good nothing is accepted, nor where a PDU is open
+  opened_refused : Unlawful lends null_pdu (told call.Open (refused (cause.Read error.Negative) 6) 0 0 0 ∷ opened ∷ []);
+  opened_over : Unlawful lends null_pdu (behind_open opened);
+  -- an accepted open has taken the header and no more
+  open_takes : Unlawful lends null_pdu (first (told call.Open accepted 9 0 1));
+  -- before a PDU is opened each call is refused, and nothing is counted
+  done_unopened : Unlawful lends null_pdu (first (told (call.Next 0) answer.Done 0 0 0));
   events_unopened : Unlawful lends null_pdu (first (told call.Skip (refused cause.OutOfTurn 0) 0 1 0));
   bytes_unopened : Unlawful lends null_pdu (first (told call.Skip (refused cause.OutOfTurn 0) 0 0 1));
   -- what is told of an open PDU is what has passed and was taken
@@ -106,6 +123,8 @@ RulesOut lends = record {
   close_refused : Unlawful lends null_pdu (behind_event (told (call.Close extent) (refused cause.Unfinished 9) 9 1 1));
   close_refused_by : Unlawful lends null_pdu (behind_open (told (call.Close extent) (refused cause.Depth 8) 8 0 0));
   close_too_soon : Unlawful lends null_pdu (behind_open (told (call.Close extent) closed 8 0 0));
+  close_long : Unlawful lends null_pdu (behind_event (told (call.Close extent) (answer.Closed (record { events = 1; length = 2 })) 9 1 1));
+  close_short : Unlawful lends two_pdu (two_opened ∷ gave ∷ told (call.Close two_extent) (answer.Closed (record { events = 1; length = 2 })) 9 1 1 ∷ []);
   -- bytes before which no value is have no events
   no_value : Unlawful lends (slice (pdu (0x0e ∷ []))) (behind_open (told (call.Next 0) (answer.Gave event.Null) 9 1 1));
 }
@@ -128,6 +147,21 @@ bytes_opened = told call.Open (answer.Opened (record { capabilities = 0; start =
 abbrev pub gave_bytes : ℕ → Taken → List Moment
 gave_bytes room t = bytes_opened ∷ told (call.Next room) (answer.Gave (event.Bytes (record { taken = t; len = 1 }))) 12 1 4 ∷ []
 
+-- the same for a UTF-8 string
+abbrev pub text_pdu : View
+text_pdu = slice (pdu (0x0d ∷ 0x03 ∷ 0x01 ∷ 0x61 ∷ []))
+
+abbrev pub gave_text : Taken → List Moment
+gave_text t = bytes_opened ∷ told (call.Next 1) (answer.Gave (event.Text (record { taken = t; len = 1 }))) 12 1 4 ∷ []
+
+-- and for the key "a" of an object
+abbrev pub key_pdu : View
+key_pdu = slice (pdu (0x01 ∷ 0x03 ∷ 0x01 ∷ 0x02 ∷ 0x03 ∷ 0x01 ∷ 0x61 ∷ 0x0a ∷ []))
+
+abbrev pub gave_key : Taken → List Moment
+gave_key t = told call.Open (answer.Opened (record { capabilities = 0; start = 8; length = 8 })) 8 0 0 ∷ told (call.Next 0) (answer.Gave event.MapBegin) 11 1 3
+    ∷ told (call.Next 1) (answer.Gave (event.Key (record { taken = t; len = 1 }))) 15 2 7 ∷ []
+
 -- a PDU whose body begins an array of three, with two nulls, and then a byte that begins no value
 abbrev pub three_pdu : View
 three_pdu = slice (pdu (0x00 ∷ 0x03 ∷ 0x03 ∷ 0x0a ∷ 0x0a ∷ 0x0e ∷ []))
@@ -142,16 +176,29 @@ three_begun = told (call.Next 0) (answer.Gave event.ArrayBegin) 11 1 3
 abbrev pub two_skipped : Moment
 two_skipped = told call.Skip (refused (cause.Read (error.Byte kind.NextItem 0x0e)) 13) 13 3 5
 
+-- a skip that went over both, and was not refused
+abbrev pub both_skipped : Moment
+both_skipped = told call.Skip (answer.Skipped 2) 13 3 5
+
 abbrev pub LawExamples : Type 0
 LawExamples = record {
   rules_out : (lends : Bool) → RulesOut lends;
   -- a reader that lends hands out parts of the input, and one that copies parts of the text buffer
   copied_by_lending : Unlawful true bytes_pdu (gave_bytes 1 Copied);
   lent_by_copying : Unlawful false bytes_pdu (gave_bytes 1 (Lent 11));
+  text_by_lending : Unlawful true text_pdu (gave_text Copied);
+  text_by_copying : Unlawful false text_pdu (gave_text (Lent 11));
+  key_by_lending : Unlawful true key_pdu (gave_key Copied);
+  key_by_copying : Unlawful false key_pdu (gave_key (Lent 14));
   -- where the text buffer is too short no event passes
   room_wanting : Unlawful false bytes_pdu (gave_bytes 0 Copied);
+  -- a reader that lends has no text buffer that could be too short
+  room_of_lending : Unlawful true three_pdu (three_opened ∷ told (call.Next 0) (refused (cause.Read error.Room) 8) 8 0 0 ∷ []);
+  -- a refused next passes nothing
+  refused_passes : (lends : Bool) → Unlawful lends three_pdu (three_opened ∷ told (call.Next 0) (refused (cause.Read error.Negative) 8) 8 1 0 ∷ []);
   -- a byte is at most four events
   few_events : (lends : Bool) → Unlawful lends null_pdu five_begun;
   -- a skip of one value goes not beyond it, refused or not
   beyond_value : (lends : Bool) → Unlawful lends three_pdu (three_opened ∷ three_begun ∷ two_skipped ∷ []);
+  beyond_value_again : (lends : Bool) → Unlawful lends three_pdu (three_opened ∷ three_begun ∷ both_skipped ∷ []);
 }

@@ -1,11 +1,12 @@
 -- What the law rules out, each by the clause that it breaks.
-use Rattle.std.proofs.Common.{◌≡◌, ℕ, zero, suc, ◌+◌, ◌-◌, ◌≤◌, take, Bool, true, false, inl, inr, List, [], ◌∷◌, ◌++◌, length, Some, None, refl, sym, ap, ◌∙◌, subst, arith}
+use Rattle.std.proofs.Common.{◌≡◌, ℕ, zero, suc, ◌+◌, ◌-◌, ◌≤◌, take, Bool, true, false, cond, ◌==◌, append-nil, inl, inr, List, [], ◌∷◌, ◌++◌, length, Some, None, refl, sym, ap, ◌∙◌, subst, arith}
 use Rattle.read.specs.Reader.{View}
 use Rattle.read.specs.declared.Taken.TheVariants.{Copied}
 use Rattle.format.specs.Numbers.{number_of}
 use Rattle.format.specs.declared.width.Width.TheVariants.{W8, W16, W32, W64}
 use Rattle.format.specs.declared.refusal.Cause.{Cause}
 use Rattle.format.specs.declared.refusal.Cause.TheVariants as cause
+use Rattle.format.specs.declared.refusal.ReadError.TheVariants as error
 use Rattle.format.specs.declared.refusal.Refusal.{Refusal}
 use Rattle.values.specs.Values.{Value, Event, encoding, events, count_encoding, null, yes_value, no_value, integer, real, bytes, text, array, object, template, no_values, value, is_null, is_true, some_bytes, array_begin, array_end, Formed}
 use Rattle.bunser.specs.declared.Header.{Header}
@@ -17,8 +18,8 @@ use Rattle.de.specs.declared.entry.Answer.TheVariants as answer
 use Rattle.de.specs.Made.{Moment}
 use Rattle.de.specs.Shown.{shown}
 use Rattle.runs.specs.Examples.{slice}
-use Rattle.runs.specs.Law.{Law, Lawful, Begins, from, all_bytes, Passed, opens, moves, Agrees, HandedOut, RefusedBy, RefusedAgrees, stretch, ForGoodOrRoom, CloseAsked, HeaderAt, Declared, Whole, Ended, PduStory, Unclosed}
-use Rattle.runs.specs.Unlawful.{three_pdu, three_opened, three_begun, two_skipped, Unlawful, RulesOut, extent, refused, opened, gave, null_pdu, bytes_pdu, gave_bytes, begun, five_begun}
+use Rattle.runs.specs.Law.{Law, Lawful, Begins, from, all_bytes, Passed, opens, moves, Agrees, HandedOut, RefusedBy, RefusedAgrees, stretch, Stretched, ForGoodOrRoom, CloseAsked, HeaderAt, Declared, Whole, Ended, PduStory, Unclosed}
+use Rattle.runs.specs.Unlawful.{told, two_pdu, two_extent, two_opened, three_pdu, three_opened, three_begun, two_skipped, both_skipped, Unlawful, RulesOut, extent, refused, opened, gave, null_pdu, bytes_pdu, gave_bytes, begun, five_begun}
 use Rattle.runs.proofs.Moments.{last_same}
 use Rattle.runs.proofs.law_examples_hold.Goals as goal
 
@@ -55,6 +56,18 @@ none_passed h m k (opens g n {k = j} a b) is answered =
     let same_header : j ≡ k = cc in
     (refl, ap (λ (k : Header). k.start) same_header)
 none_passed {lends} {v} h m k (moves g n {c = c} {d = d} more passed agrees) is answered =
+    let (same, lasts) = last_same g h is in
+    absurd (subst (λ a. Agrees lends v n a more c d) (ap (λ (m : Moment). m.answer) lasts ∙ answered) agrees)
+
+-- and ends where the body begins
+opens_there : {lends : Bool} {v : View} {l : List Moment} {es : List Event} {c : ℕ} (h : List Moment) (m : Moment) (k : Header) → Passed lends v l es c → l ≡ h ++ (m ∷ []) → m.answer ≡ answer.Opened k →
+    m.count ≡ k.start
+opens_there h m k (opens g n {k = j} a b) is answered =
+    let (same, lasts) = last_same g h is in
+    let headers : answer.Opened j ≡ answer.Opened k = sym a ∙ ap (λ (m : Moment). m.answer) lasts ∙ answered in
+    let same_header : j ≡ k = cc in
+    sym (ap (λ (m : Moment). m.count) lasts) ∙ b ∙ ap (λ (k : Header). k.start) same_header
+opens_there {lends} {v} h m k (moves g n {c = c} {d = d} more passed agrees) is answered =
     let (same, lasts) = last_same g h is in
     absurd (subst (λ a. Agrees lends v n a more c d) (ap (λ (m : Moment). m.answer) lasts ∙ answered) agrees)
 
@@ -106,6 +119,19 @@ some_event (text w bs) h = absurd (cc)
 some_event (array w vs) h = absurd (cc)
 some_event (object w ps) h = absurd (cc)
 some_event (template w ks u rs) h = absurd (cc)
+
+-- what has the event of a null has its one byte
+only_null : (w : Value) → events w ≡ is_null ∷ [] → length (encoding w) ≡ 1
+only_null null h = refl
+only_null yes_value h = absurd (cc)
+only_null no_value h = absurd (cc)
+only_null (integer w z) h = absurd (cc)
+only_null (real n) h = absurd (cc)
+only_null (bytes w bs) h = absurd (cc)
+only_null (text w bs) h = absurd (cc)
+only_null (array w vs) h = absurd (cc)
+only_null (object w ps) h = absurd (cc)
+only_null (template w ks u rs) h = absurd (cc)
 
 abbrev first_byte : List ℕ → ℕ
 first_byte [] = 0
@@ -181,6 +207,13 @@ module _ (lends : Bool) where
   unclosed_by (inl (number, none)) = absurd (omega arith)
   unclosed_by (inr (number, w, ended)) = absurd (omega arith)
 
+  -- the body of two bytes, behind its null
+  behind_null : {k : List Moment} (law : Law lends two_pdu (two_opened ∷ gave ∷ k)) → PduStory lends two_pdu (two_opened ∷ []) gave k two_extent
+  behind_null law = (at_second law).story
+
+  null_passed : {k : List Moment} (law : Law lends two_pdu (two_opened ∷ gave ∷ k)) → (behind_null law).es ≡ is_null ∷ []
+  null_passed law = (one_event two_opened gave _ event.Null (behind_null law).passed refl refl).0
+
   rules_out : RulesOut lends
   rules_out = record {
     answer_of_skip = λ law. (at_second law).suits;
@@ -198,8 +231,13 @@ module _ (lends : Bool) where
     next_takes = λ law. let h : Same 1 0 = ((at_first law).still.out_of_turn _ refl (omega arith)).1 in absurd (omega arith);
     next_elsewhere = λ law. let h : Same 1 0 = ((at_first law).still.out_of_turn _ refl (omega arith)).0 in absurd (omega arith);
     close_takes = λ law. let h : Same 10 9 = (at_third law).still.closing extent refl in absurd (omega arith);
+    close_elsewhere = λ law. let h : Same 7 8 = ((at_second law).still.out_of_turn _ refl (omega arith)).0 in absurd (omega arith);
     header_there = λ law. let z = ((at_first law).opens refl).accepts refl refl 0 8 1 header_here in absurd (cc);
     no_header = λ law. let (free, closed, there) = ((at_first law).opens refl).accepted 0 8 1 refl in header_nowhere there;
+    opened_refused = λ law. let (free, closed, there) = ((at_second law).opens refl).accepted 0 8 1 refl in absurd (cc);
+    opened_over = λ law. let (free, closed, there) = ((at_second law).opens refl).accepted 0 8 1 refl in absurd (cc);
+    open_takes = λ law. let h : Same 9 8 = opens_there [] _ _ (at_first law).story.passed refl refl in absurd (omega arith);
+    done_unopened = λ law. let (f, is) = (at_first law).story.refuses in absurd (cc);
     events_unopened = λ law. let h : Same 1 0 = (at_first law).story.no_events in absurd (omega arith);
     bytes_unopened = λ law. let h : Same 1 0 = (at_first law).story.no_bytes in absurd (omega arith);
     events_told = λ law. let y = (at_first law).story in let (none, at) = none_passed [] _ _ y.passed refl refl in let h : Same 1 0 = y.truthful.counted ∙ ap length none in absurd (omega arith);
@@ -221,6 +259,11 @@ module _ (lends : Bool) where
     close_refused = λ law. let z = (((behind_gave law).goes_on refl _ _ refl).closes refl).accepts null null_declared (one law).0 in absurd (cc);
     close_refused_by = λ law. unclosed_by ((((behind_opened law).goes_on refl _ _ refl).closes refl).refused refl _ refl);
     close_too_soon = λ law. let h : Same 1 0 = ((((behind_opened law).goes_on refl _ _ refl).closes refl).accepted 1 1 refl).0 ∙ ap length (nothing law).0 in absurd (omega arith);
+    close_long = λ law. let (n, l, w, declared, all) = (((behind_gave law).goes_on refl _ _ refl).closes refl).accepted 1 2 refl in let h : Same 2 1 = l in absurd (omega arith);
+    close_short = λ law.
+        let (n, l, w, declared, all) = (((behind_null law).goes_on refl _ _ refl).closes refl).accepted 1 2 refl in
+        let h : Same 1 2 = sym (only_null w (sym all ∙ null_passed law)) ∙ declared.long in
+        absurd (omega arith);
     no_value = λ law.
         let y = (at_second law).story in
         let (all, at) = one_event opened _ _ event.Null y.passed refl refl in
@@ -291,6 +334,65 @@ skip_passed {lends} {v} h m f (moves g n {es = es} {c = c} {d = d} more passed a
     let (stretched, after, place) = subst (λ q. RefusedAgrees q f more c d) (ap (λ (m : Moment). m.call) lasts ∙ skips) by_answer in
     record { before = es; more = more; at = c; passed = subst (λ h. Passed lends v h es c) same passed; all = refl; stretched = stretched; place = place }
 
+-- what a skip has passed that was not refused
+record SkippedPassed (lends : Bool) (v : View) (h : List Moment) (m : Moment) (n : ℕ) (es : List Event) (d : ℕ) : Type 0 where
+  before : List Event
+  more : List Event
+  at : ℕ
+  passed : Passed lends v h before at
+  all : es ≡ before ++ more
+  stretched : Stretched more
+  place : d ≡ cond (n == 0) at m.count
+
+skipped_passed : {lends : Bool} {v : View} {l : List Moment} {es : List Event} {d : ℕ} (h : List Moment) (m : Moment) (n : ℕ) → Passed lends v l es d → l ≡ h ++ (m ∷ []) →
+    m.answer ≡ answer.Skipped n → SkippedPassed lends v h m n es d
+skipped_passed h m n (opens g o {k = j} a b) is answered =
+    let (same, lasts) = last_same g h is in
+    let z : answer.Opened j ≡ answer.Skipped n = sym a ∙ ap (λ (m : Moment). m.answer) lasts ∙ answered in
+    absurd (cc)
+skipped_passed {lends} {v} h m n (moves g o {es = es} {c = c} {d = d} more passed agrees) is answered =
+    let (same, lasts) = last_same g h is in
+    let (count, stretched, place) = subst (λ a. Agrees lends v o a more c d) (ap (λ (m : Moment). m.answer) lasts ∙ answered) agrees in
+    record {
+      before = es;
+      more = more;
+      at = c;
+      passed = subst (λ h. Passed lends v h es c) same passed;
+      all = refl;
+      stretched = stretched;
+      place = place ∙ ap (λ (m : Moment). cond (n == 0) c m.count) lasts;
+    }
+
+whole_stretch : (more : List Event) → Stretched more → stretch 0 more ≡ length more
+whole_stretch [] h = refl
+whole_stretch (e ∷ es) h = subst (λ l. stretch 0 (e ∷ l) ≡ suc (length es)) (append-nil es) (h [])
+
+-- a refused next has passed nothing
+next_passed : {lends : Bool} {v : View} {l : List Moment} {es : List Event} {d : ℕ} (h : List Moment) (m : Moment) (f : Refusal) (room : ℕ) → Passed lends v l es d → l ≡ h ++ (m ∷ []) →
+    m.call ≡ call.Next room → m.answer ≡ answer.Refused f → (at : ℕ) × Passed lends v h es at
+next_passed h m f room (opens g n {k = j} a b) is nexts answered =
+    let (same, lasts) = last_same g h is in
+    let z : answer.Opened j ≡ answer.Refused f = sym a ∙ ap (λ (m : Moment). m.answer) lasts ∙ answered in
+    absurd (cc)
+next_passed {lends} {v} h m f room (moves g n {es = es} {c = c} {d = d} more passed agrees) is nexts answered =
+    let (same, lasts) = last_same g h is in
+    let by_answer : RefusedAgrees n.call f more c d = subst (λ a. Agrees lends v n a more c d) (ap (λ (m : Moment). m.answer) lasts ∙ answered) agrees in
+    let (none, at) = subst (λ q. RefusedAgrees q f more c d) (ap (λ (m : Moment). m.call) lasts ∙ nexts) by_answer in
+    let all : es ++ more ≡ es = ap (λ l. es ++ l) none ∙ append-nil es in
+    (c, subst (λ es. Passed lends v h es c) (sym all) (subst (λ h. Passed lends v h es c) same passed))
+
+refused_passes : (lends : Bool) → Unlawful lends three_pdu (three_opened ∷ told (call.Next 0) (refused (cause.Read error.Negative) 8) 8 1 0 ∷ [])
+refused_passes lends law =
+    let y = (at_second law).story in
+    let (at, before) = next_passed (three_opened ∷ []) _ _ 0 y.passed refl refl refl in
+    let (none, begins) = none_passed [] _ _ before refl refl in
+    let h : Same 1 0 = y.truthful.counted ∙ ap length none in
+    absurd (omega arith)
+
+lending_has_room : ForGoodOrRoom true (record { place = 8; cause = cause.Read error.Room }) → ⊥
+lending_has_room (inl h) = let z : false ≡ true = h in absurd (cc)
+lending_has_room (inr (copies, number)) = let z : true ≡ false = copies in absurd (cc)
+
 abbrev three : Value
 three = array W8 (value null (value null (value null no_values)))
 
@@ -329,12 +431,33 @@ beyond_value lends law =
     let behind : is_null ∷ is_null ∷ is_null ∷ array_end ∷ [] ≡ s.more ++ rest = cc in
     one_null s.more rest _ (omega arith) behind s.stretched
 
+beyond_value_again : (lends : Bool) → Unlawful lends three_pdu (three_opened ∷ three_begun ∷ both_skipped ∷ [])
+beyond_value_again lends law =
+    let y = (at_third law).story in
+    let s = skipped_passed (three_opened ∷ three_begun ∷ []) both_skipped _ y.passed refl refl in
+    let (first, at) = one_event three_opened three_begun _ event.ArrayBegin s.passed refl refl in
+    let all : y.es ≡ array_begin ∷ s.more = s.all ∙ ap (λ es. es ++ s.more) first in
+    let counted : Same 3 (length y.es) = y.truthful.counted in
+    let long : Same 3 (suc (length s.more)) = counted ∙ ap length all in
+    let place : y.at ≡ 13 = s.place in
+    let (rest, begins) = y.truthful.every three three_formed (three_begins (y.at - 8) (omega arith)) in
+    let going_on : array_begin ∷ is_null ∷ is_null ∷ is_null ∷ array_end ∷ [] ≡ array_begin ∷ (s.more ++ rest) = begins ∙ ap (λ es. es ++ rest) all in
+    let behind : is_null ∷ is_null ∷ is_null ∷ array_end ∷ [] ≡ s.more ++ rest = cc in
+    one_null s.more rest _ (omega arith) behind (whole_stretch s.more s.stretched)
+
 pub returns : goal.returns
 returns c = record {
   rules_out = rules_out;
   copied_by_lending = λ law. (one_passed (_ ∷ []) _ _ (at_second law).story.passed refl refl).handed;
   lent_by_copying = λ law. (one_passed (_ ∷ []) _ _ (at_second law).story.passed refl refl).handed;
+  text_by_lending = λ law. (one_passed (_ ∷ []) _ _ (at_second law).story.passed refl refl).handed;
+  text_by_copying = λ law. (one_passed (_ ∷ []) _ _ (at_second law).story.passed refl refl).handed;
+  key_by_lending = λ law. (one_passed (_ ∷ _ ∷ []) _ _ (at_third law).story.passed refl refl).handed;
+  key_by_copying = λ law. (one_passed (_ ∷ _ ∷ []) _ _ (at_third law).story.passed refl refl).handed;
   room_wanting = no_room;
+  room_of_lending = λ law. lending_has_room ((at_second law).turn _ refl);
+  refused_passes = refused_passes;
   few_events = too_many;
   beyond_value = beyond_value;
+  beyond_value_again = beyond_value_again;
 }
