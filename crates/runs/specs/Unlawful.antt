@@ -58,6 +58,13 @@ two_extent = record { start = 8; length = 2 }
 abbrev pub two_opened : Moment
 two_opened = told call.Open (answer.Opened (record { capabilities = 0; start = 8; length = 2 })) 8 0 0
 
+-- a PDU whose body is a PDU
+abbrev pub pdu_in_pdu : View
+pdu_in_pdu = slice (pdu (pdu (0x0a ∷ [])))
+
+abbrev pub outer_opened : Moment
+outer_opened = told call.Open (answer.Opened (record { capabilities = 0; start = 8; length = 9 })) 8 0 0
+
 -- behind these moments this one cannot be told
 abbrev pub first : Moment → List Moment
 first m = m ∷ []
@@ -96,7 +103,7 @@ RulesOut lends = record {
   no_header : Unlawful lends (slice []) (first opened);
   -- behind a refusal for good nothing is accepted, nor where a PDU is open
   opened_refused : Unlawful lends null_pdu (told call.Open (refused (cause.Read error.Negative) 6) 0 0 0 ∷ opened ∷ []);
-  opened_over : Unlawful lends null_pdu (behind_open opened);
+  opened_over : Unlawful lends pdu_in_pdu (outer_opened ∷ told call.Open (answer.Opened (record { capabilities = 0; start = 16; length = 1 })) 16 0 0 ∷ []);
   -- an accepted open has taken the header and no more
   open_takes : Unlawful lends null_pdu (first (told call.Open accepted 9 0 1));
   -- before a PDU is opened each call is refused, and nothing is counted

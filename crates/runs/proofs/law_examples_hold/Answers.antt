@@ -235,7 +235,7 @@ module _ (lends : Bool) where
     header_there = λ law. let z = ((at_first law).opens refl).accepts refl refl 0 8 1 header_here in absurd (cc);
     no_header = λ law. let (free, closed, there) = ((at_first law).opens refl).accepted 0 8 1 refl in header_nowhere there;
     opened_refused = λ law. let (free, closed, there) = ((at_second law).opens refl).accepted 0 8 1 refl in absurd (cc);
-    opened_over = λ law. let (free, closed, there) = ((at_second law).opens refl).accepted 0 8 1 refl in absurd (cc);
+    opened_over = λ law. let (free, closed, there) = ((at_second law).opens refl).accepted 0 16 1 refl in absurd (cc);
     open_takes = λ law. let h : Same 9 8 = opens_there [] _ _ (at_first law).story.passed refl refl in absurd (omega arith);
     done_unopened = λ law. let (f, is) = (at_first law).story.refuses in absurd (cc);
     events_unopened = λ law. let h : Same 1 0 = (at_first law).story.no_events in absurd (omega arith);
