@@ -1,5 +1,5 @@
 -- What an event changes of what was counted.
-use Rattle.std.specs.Prelude.{ℕ, ◌+◌, ◌-◌, min}
+use Rattle.std.specs.Prelude.{ℕ, ◌+◌, ◌-◌, min, Bool, true, false}
 use Rattle.de.specs.declared.event.Event.{Event}
 use Rattle.de.specs.declared.event.Event.TheVariants as event
 
@@ -22,3 +22,19 @@ depth_behind event.True n = n
 depth_behind event.False n = n
 depth_behind event.Null n = n
 depth_behind event.Absent n = n
+
+-- the key of a cell begins it
+abbrev pub is_key : Event → Bool
+is_key event.ArrayBegin = false
+is_key event.MapBegin = false
+is_key event.ArrayEnd = false
+is_key event.MapEnd = false
+is_key (event.Key s) = true
+is_key (event.Int w x) = false
+is_key (event.Real x) = false
+is_key (event.Bytes s) = false
+is_key (event.Text s) = false
+is_key event.True = false
+is_key event.False = false
+is_key event.Null = false
+is_key event.Absent = false

@@ -1,7 +1,7 @@
 //! A table, and how it is found in the events of a list.
-ghost use Rattle.std.specs.Prelude.{◌≡◌, ◌≢◌, ◌==◌, [], Ok, vec_len, IfOk, true, IsTrue, ◌↔◌, Some, slice_get, option_map, string_bytes};
+ghost use Rattle.std.specs.Prelude.{◌≡◌, ◌≢◌, ◌==◌, [], Ok, vec_len, IfOk, true, false, IsTrue, ◌↔◌, Some, slice_get, option_map, string_bytes};
 ghost use Rattle.de.specs.declared.event.Event.TheVariants.{MapEnd, Absent};
-ghost use Rattle.tablecheck.specs.Surveys.{more};
+ghost use Rattle.tablecheck.specs.Surveys.{more, is_key};
 
 use super::words::{Count, Names};
 use de::event::Event;
@@ -22,7 +22,7 @@ pub struct Table {
 impl Table {
     /// A table whose first row begins.
     pub fn new(alloc: Global) -> Table
-        ensures counts { (result.rows ≡ 1) × (result.gaps ≡ 0) }
+        ensures counts { (result.rows ≡ 1) × (result.gaps ≡ 0) × (result.cells ≡ 0) }
         ensures columns { result.columns.items ≡ [] }
     {
         Table {
@@ -53,6 +53,11 @@ impl Table {
         ensures rows { self.new.rows ≡ self.old.rows }
         ensures columns { self.old.rows ≢ 1 → self.new.columns.items ≡ self.old.columns.items }
         ensures whole { event ≡ MapEnd → result ≡ Ok (self.old.cells == vec_len self.old.columns) }
+        ensures cells { is_key event ≡ true → self.new.cells ≡ more self.old.cells }
+        ensures first { is_key event ≡ true → self.old.rows ≡ 1 → IfOk result (λ same. same ≡ true) }
+        ensures later { is_key event ≡ true → self.old.rows ≢ 1 → IfOk result (λ same. IsTrue same ↔ (option_map string_bytes (slice_get self.old.columns.items self.old.cells) ≡ Some key.now)) }
+        ensures other { is_key event ≡ false → self.new.cells ≡ self.old.cells }
+        ensures rest { is_key event ≡ false → event ≢ MapEnd → result ≡ Ok true }
     {
         match event {
             Event::Key(_) => self.begin_cell(key),
