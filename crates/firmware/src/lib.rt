@@ -37,7 +37,7 @@ pub extern "C" fn yieldnext_events(table: &[u8], slots: &mut [Slot]) -> Verdict
 /// How many bytes a decoder holds, all of them on the stack of either call.
 #[unsafe(no_mangle)]
 pub extern "C" fn yieldnext_decoder_size() -> usize
-    ensures { result ≡ 15600 }
+    ensures { result ≡ 15632 }
 {
     size_of::<Decoder<SliceRead>>()
 }
