@@ -86,7 +86,7 @@ impl Opens {
     {
         Opens {
             top: Frame::Done,
-            frames: [Frame::Items(0); LEVELS],
+            frames: [Frame::Done; LEVELS],
             depth: Depth { free: 128 },
             rows: 0,
             keys: KeyRoom::new(),
