@@ -6,36 +6,19 @@ use Rattle.bunser.proofs.Bunser.key_len.Goals as goal
 
 pub returns-in_err-tag : goal.returns-in_err-tag
 returns-in_err-tag g c =
-    let v = g.R.DeRead.view c.args.self.now.read in
-    let w = g.R.DeRead.view c.peek.new.self.read in
     let h = c.peek.ensures in
-    record {
-      reads = key_stop g.R.DeRead.lends c.args.self.now.end c.args.kind v w c.read_count-place.result c.read_count-place.ensures c.peek.result h.reads _ c.from_residual.result c.in_err-tag.ensures c.from_residual.ensures.1;
-      same = h.same;
-    }
+    record { reads = key_stop _ _ _ _ _ _ c.read_count-place.ensures _ h.reads _ _ c.in_err-tag.ensures c.from_residual.ensures.1; same = h.same }
 
 pub returns-then-not-begins_key : goal.returns-then-not-begins_key
 returns-then-not-begins_key g c =
-    let v = g.R.DeRead.view c.args.self.now.read in
-    let w = g.R.DeRead.view c.peek.new.self.read in
     let h = c.peek.ensures in
-    record {
-      reads = no_key g.R.DeRead.lends c.args.self.now.end c.args.kind v w c.read_count-place.result c.read_count-place.ensures c.peek.result h.reads c.in_ok-tag.tag c.at.result
-          c.in_ok-tag.ensures (sym c.begins_key.ensures ∙ c.if-not-begins_key.true) c.at.ensures;
-      same = h.same;
-    }
+    record { reads = no_key _ _ _ _ _ _ c.read_count-place.ensures _ h.reads _ _ c.in_ok-tag.ensures (sym c.begins_key.ensures ∙ c.if-not-begins_key.true) c.at.ensures; same = h.same }
 
 pub returns : goal.returns
 returns g c =
-    let v = g.R.DeRead.view c.args.self.now.read in
-    let w = g.R.DeRead.view c.peek.new.self.read in
-    let u = g.R.DeRead.view c.placed_count.new.self.read in
     let h = c.peek.ensures in
     let k = c.placed_count.ensures in
     let end = c.discard.ensures.same ∙ h.same in
-    record {
-      reads = key_told g.R.DeRead.lends c.args.self.now.end c.args.kind v w c.read_count-place.result c.read_count-place.ensures c.peek.result h.reads c.in_ok-tag.tag u c.placed_count.result
-          c.in_ok-tag.ensures (sym c.begins_key.ensures ∙ c.if-not-begins_key.false)
-          (subst₂ (λ e x. TellsAt (placed_count g.R.DeRead.lends e x) c.placed_count.result u) end c.discard.ensures.reads k.reads);
-      same = k.same ∙ end;
-    }
+    let u = g.R.DeRead.view c.placed_count.new.self.read in
+    let count = subst₂ (λ e x. TellsAt (placed_count g.R.DeRead.lends e x) c.placed_count.result u) end c.discard.ensures.reads k.reads in
+    record { reads = key_told _ _ _ _ _ _ c.read_count-place.ensures _ h.reads _ _ _ c.in_ok-tag.ensures (sym c.begins_key.ensures ∙ c.if-not-begins_key.false) count; same = k.same ∙ end }

@@ -3,26 +3,20 @@ use Rattle.bunser.proofs.Bunser.next_text.Goals as goal
 
 pub returns-in_err-taken : goal.returns-in_err-taken
 returns-in_err-taken g c =
-    let v = g.R.DeRead.view c.args.self.now.read in
-    let w = g.R.DeRead.view c.read_bytes.new.self.read in
     let h = c.read_bytes.ensures in
-    let told = text_stop c.args.self.now.end c.args.n v w c.args.buf.now c.read_bytes.new.buf g.R.DeRead.lends _ c.from_residual.result c.in_err-taken.ensures.reads.reads c.from_residual.ensures.1 h.puts in
+    let told = text_stop _ _ _ _ _ _ _ _ _ c.in_err-taken.ensures.reads.reads c.from_residual.ensures.1 h.puts in
     record { reads = record { reads = told.0; same = h.reads.same }; puts = told.1 }
 
 pub returns-then-is_text : goal.returns-then-is_text
 returns-then-is_text g c =
-    let v = g.R.DeRead.view c.args.self.now.read in
-    let w = g.R.DeRead.view c.read_bytes.new.self.read in
     let h = c.in_ok-taken.ensures in
-    let told = text_told c.args.self.now.end c.args.n v w c.args.buf.now c.read_bytes.new.buf g.R.DeRead.lends c.in_ok-taken.taken c.is_text.result
-    (g.R.DeRead.sound c.args.self.now.read).kept_all h.reads.reads h.puts c.is_text.ensures c.if-is_text.true in
+    let kept = (g.R.DeRead.sound c.args.self.now.read).kept_all in
+    let told = text_told _ _ _ _ _ _ _ _ _ kept h.reads.reads h.puts c.is_text.ensures c.if-is_text.true in
     record { reads = record { reads = told.0; same = h.reads.same }; puts = told.1 }
 
 pub returns : goal.returns
 returns g c =
-    let v = g.R.DeRead.view c.args.self.now.read in
-    let w = g.R.DeRead.view c.read_bytes.new.self.read in
     let h = c.in_ok-taken.ensures in
-    let told = no_text_told c.args.self.now.end c.args.n v w c.args.buf.now c.read_bytes.new.buf g.R.DeRead.lends c.in_ok-taken.taken c.is_text.result c.wipe.new.buf
-    (g.R.DeRead.sound c.args.self.now.read).kept_all h.reads.reads h.puts c.is_text.ensures c.if-is_text.false c.wipe.ensures in
+    let kept = (g.R.DeRead.sound c.args.self.now.read).kept_all in
+    let told = no_text_told _ _ _ _ _ _ _ _ _ _ kept h.reads.reads h.puts c.is_text.ensures c.if-is_text.false c.wipe.ensures in
     record { reads = record { reads = told.0; same = h.reads.same }; puts = told.1 }
