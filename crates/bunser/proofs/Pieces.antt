@@ -237,7 +237,10 @@ module _ (lends : Bool) (end end' : Option ℕ) (piece : List ℕ) (k : ℕ) (w 
       ∙ ap (λ x. put false (fronts (asked x w (Some (length piece)) k) k w) piece) ends
       ∙ ap (λ m. put false (fronts (asked end' w (Some m) k) k w) piece) long
 
--- a `?` of a reader that copies
-pub of_copying : (checked lends : Bool) (end : Option ℕ) (n : ℕ) (v : View) (e : ReadError) (r : Result Unit ReadError) (u : View) → lends ≡ false → IsErrAnd r (λ f. f ≡ e) →
-    Tells (pass_read checked false end n v) (Err e) u → Tells (pass_read checked lends end n v) r u
-of_copying checked lends end n v e r u copies by h = subst (λ b. Tells (pass_read checked b end n v) r u) (sym copies) (subst (λ r. Tells (pass_read checked false end n v) r u) (sym (err_is r e by)) h)
+-- a `?` behind a piece of a reader that copies
+pub piece_stop : (checked lends : Bool) (end end' : Option ℕ) (n : ℕ) (v w u : View) (left k : ℕ) (a : Await) (piece : List ℕ) (e : ReadError) (r : Result Unit ReadError) →
+    Drawn n v w left a → k ≤ 64 → k ≤ left → past end' (v.count + n) ≡ false → past v.stop (v.count + n) ≡ false → lends ≡ false → end ≡ end' → length piece ≡ 64 →
+    Tells (bytes_read lends end (room lends piece) k w) (Err e) u → IsErrAnd r (λ f. f ≡ e) → Tells (pass_read checked lends end' n v) r u
+piece_stop checked lends end end' n v w u left k a piece e r d few within ends stops copies same long h by =
+    let told = drawn_stop end' n v w left a d k few within ends stops checked e u (piece_read lends end end' piece k w copies same long (Err e) u h) in
+    subst (λ b. Tells (pass_read checked b end' n v) r u) (sym copies) (subst (λ r. Tells (pass_read checked false end' n v) r u) (sym (err_is r e by)) told)

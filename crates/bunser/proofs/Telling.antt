@@ -1,11 +1,12 @@
 -- How what is told of a read goes into what is told of a longer one.
-use Rattle.std.proofs.Common.{◌≡◌, ℕ, Bool, true, false, cond, IsErrAnd, Ok, Err, Result, sym, refl, ap, subst, arith}
+use Rattle.std.proofs.Common.{◌≡◌, ℕ, Bool, true, false, cond, IsErrAnd, Option, Ok, Err, Result, sym, refl, ap, subst, arith}
 use Rattle.read.specs.Reader.{View}
 use Rattle.read.proofs.Slices.{nothing_lost}
 use Rattle.format.specs.declared.refusal.ReadError.{ReadError}
 use Rattle.format.specs.declared.refusal.ReadError.TheVariants.{End, Stop, Room, Short, Source, Magic, Byte, Negative, TooLong, NotText}
 use Rattle.format.specs.declared.refusal.Refusal.{Refusal}
-use Rattle.bunser.specs.Outcome.{Outcome, got, bad, and_then, at, placed, placed_result, ReadLeaves, TellsBy, Tells, TellsAt}
+use Rattle.bunser.specs.declared.Bunser.{Bunser}
+use Rattle.bunser.specs.Outcome.{Outcome, got, bad, and_then, at, placed, placed_result, ReadLeaves, TellsBy, Tells, TellsAt, BodyRead}
 use Rattle.bunser.specs.Reads.{told_as}
 
 pub ok_err : {A E : Type 0} {a : A} {e : E} {P : Type 0} → ◌≡◌ {A = Result A E} (Ok a) (Err e) → P
@@ -32,6 +33,11 @@ module _ {E : Type 0} (leaves : E → View → View → Type 0) where
   pub then_stop : {A B : Type 0} (m : Outcome E A) (f : A → View → Outcome E B) (e : E) (w : View) (r : Result B E) →
       TellsBy leaves m (Err e) w → IsErrAnd r (λ f. f ≡ e) → TellsBy leaves (and_then m f) r w
   then_stop m f e w r h k = subst (λ z. TellsBy leaves (and_then m f) z w) (sym (err_is r e k)) (then_err m f e w h)
+
+  -- the same of a read of a body
+  pub body_stop : {A B R : Type 0} {view : R → View} {b c : Bunser R} (m : Option ℕ → View → Outcome E A) (f : Option ℕ → View → A → View → Outcome E B) (e : E) (r : Result B E) →
+      BodyRead view b c (λ end v. TellsBy leaves (m end v) (Err e)) → IsErrAnd r (λ f. f ≡ e) → BodyRead view b c (λ end v. TellsBy leaves (and_then (m end v) (f end v)) r)
+  body_stop {view = view} {b = b} {c = c} m f e r h by = record { reads = then_stop (m b.end (view b.read)) (f b.end (view b.read)) e (view c.read) r h.reads by; same = h.same }
 
 -- a read that begins at a place
 pub told_placed : {A : Type 0} (m : Outcome ReadError A) (p q : ℕ) (r : Result A ReadError) (s : Result A Refusal) (w : View) → p ≡ q → Tells m r w → s ≡ placed_result p r → TellsAt (placed q m) s w

@@ -1,14 +1,12 @@
 use Rattle.std.proofs.Common.{sym, refl, ◌∙◌}
 use Rattle.bunser.specs.Outcome.{ReadLeaves}
 use Rattle.bunser.specs.Reads.{tagged_int_read}
-use Rattle.bunser.proofs.Telling.{then_ok, then_stop, err_is, unmoved}
+use Rattle.bunser.proofs.Telling.{then_ok, body_stop, err_is, unmoved}
 use Rattle.bunser.proofs.Bunser.check_next_int.Goals as goal
 
 pub returns-in_err-tag : goal.returns-in_err-tag
 unfolding tagged_int_read
-returns-in_err-tag g c =
-    let h = c.in_err-tag.ensures in
-    record { reads = then_stop ReadLeaves _ _ _ _ _ h.reads c.from_residual.ensures.1; same = h.same }
+returns-in_err-tag g c = body_stop ReadLeaves _ _ _ _ c.in_err-tag.ensures c.from_residual.ensures.1
 
 pub returns-in_err-width : goal.returns-in_err-width
 unfolding tagged_int_read

@@ -2,14 +2,12 @@ use Rattle.std.proofs.Common.{ap, ◌∙◌, w64, SFits, rules}
 use Rattle.std.proofs.lemmas.Int.{to_z-of_z}
 use Rattle.bunser.specs.Outcome.{ReadLeaves}
 use Rattle.bunser.specs.Reads.{count_read, count_of, told_as}
-use Rattle.bunser.proofs.Telling.{then_ok, then_stop, told_result}
+use Rattle.bunser.proofs.Telling.{then_ok, body_stop, told_result}
 use Rattle.bunser.proofs.Bunser.next_count.Goals as goal
 
 pub returns-in_err-value : goal.returns-in_err-value
 unfolding count_read
-returns-in_err-value g c =
-    let h = c.in_err-value.ensures in
-    record { reads = then_stop ReadLeaves _ _ _ _ _ h.reads c.from_residual.ensures.1; same = h.same }
+returns-in_err-value g c = body_stop ReadLeaves _ _ _ _ c.in_err-value.ensures c.from_residual.ensures.1
 
 pub returns : goal.returns
 unfolding count_read
