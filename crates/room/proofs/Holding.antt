@@ -89,22 +89,34 @@ module _ (r : Inside) (kept : Kept r) where
   pub used_bytes : length r.bytes ≡ 4096 → column_bytes (columns_of r) ≡ r.used
   used_bytes bytes = let b = packed_bytes r.bytes 0 (take r.count r.slots) r.used kept.packed (let k = kept.short in omega arith) in omega arith
 
-  pub found : (i : ℕ) (d : Slot) {s : Slot} → i < length (columns_of r) → get_or r.slots i d ≡ s → drop i (columns_of r) ≡ column_in r.bytes s ∷ drop (i + 1) (columns_of r)
-  found i d {s} lt e =
-      let l = count_long in
-      let within : i < length (take r.count r.slots) = rw taken_long (omega arith) in
-      let one : suc i ≡ i + 1 = omega arith in
-      get_column r.bytes (take r.count r.slots) i d within
-      ∙ ap (λ n. column_in r.bytes (get_or (take r.count r.slots) i d) ∷ drop n (columns_of r)) one
-      ∙ ap (λ s. column_in r.bytes s ∷ drop (i + 1) (columns_of r)) (get_or-take r.count r.slots i d (omega arith) ∙ e)
+  -- a key is looked up
+  module _ (old : List Column) (is : columns_of r ≡ old) (i : ℕ) (lt : i < length old) where
+    within : i < r.count
+    within = let w = subst (λ l. i < length l) (sym is) lt in let l = count_long in omega arith
 
-  pub found_within : (i : ℕ) (d : Slot) {s : Slot} → i < length (columns_of r) → get_or r.slots i d ≡ s → end_of s 0 ≤ 4096
-  found_within i d {s} lt e =
-      let l = count_long in
-      let within : i < length (take r.count r.slots) = rw taken_long (omega arith) in
-      let k = kept.short in
-      let h = packed_at 0 (take r.count r.slots) r.used i s d 0 kept.packed within (get_or-take r.count r.slots i d (omega arith) ∙ e) (omega arith) in
-      omega arith
+    pub slot_there : i < 256
+    slot_there = let w = within in let f = kept.few in omega arith
+
+    in_taken : i < length (take r.count r.slots)
+    in_taken = let w = within in rw taken_long (omega arith)
+
+    taken_is : (d : Slot) {s : Slot} → get_or r.slots i d ≡ s → get_or (take r.count r.slots) i d ≡ s
+    taken_is d e = get_or-take r.count r.slots i d within ∙ e
+
+    pub found : (d : Slot) {s : Slot} → get_or r.slots i d ≡ s → drop i old ≡ column_in r.bytes s ∷ drop (i + 1) old
+    found d {s} e =
+        let one : suc i ≡ i + 1 = omega arith in
+        ap (drop i) (sym is)
+        ∙ get_column r.bytes (take r.count r.slots) i d in_taken
+        ∙ ap (λ n. column_in r.bytes (get_or (take r.count r.slots) i d) ∷ drop n (columns_of r)) one
+        ∙ ap (λ s. column_in r.bytes s ∷ drop (i + 1) (columns_of r)) (taken_is d e)
+        ∙ ap (λ l. column_in r.bytes s ∷ drop (i + 1) l) is
+
+    pub found_within : (d : Slot) {s : Slot} → get_or r.slots i d ≡ s → end_of s 0 ≤ 4096
+    found_within d {s} e =
+        let k = kept.short in
+        let h = packed_at 0 (take r.count r.slots) r.used i s d 0 kept.packed in_taken (taken_is d e) (omega arith) in
+        omega arith
 
   -- the last key is given up
   pub popped_kept : (some : 0 < length (columns_of r)) (d : Slot) (used : ℕ) → used ≡ begin_of (get_or r.slots (r.count - 1) d) r.used →

@@ -1,5 +1,5 @@
 -- How the read of a key list is told of what is open.
-use Rattle.std.proofs.Common.{◌≡◌, ℕ, suc, ◌≤◌, Bool, true, false, cond, ltb, List, [], ◌++◌, length, drop, IsErrAnd, Some, None, Ok, Err, Option, Result, sym, refl, ap, ◌∙◌, subst, subst₂, ◌==◌, slice_index, ne_eqb}
+use Rattle.std.proofs.Common.{◌≡◌, ℕ, suc, ◌+◌, ◌-◌, ◌<◌, ◌≤◌, Bool, true, false, cond, ltb, List, [], ◌++◌, length, drop, IsErrAnd, Some, None, Ok, Err, Option, Result, sym, refl, ap, ◌∙◌, subst, subst₂, ◌==◌, slice_index, ne_eqb, arith}
 use Rattle.read.specs.Reader.{View}
 use Rattle.read.specs.Reader.{held as held_of}
 use Rattle.format.specs.declared.refusal.Refusal.{Refusal}
@@ -10,13 +10,13 @@ use Rattle.format.specs.declared.refusal.Cause.TheVariants.{Depth as TooDeep}
 use Rattle.bunser.specs.Outcome.{Outcome, got, bad, and_then, at, placed, placed_result, asked, answer, Tells, TellsAt}
 use Rattle.bunser.specs.Reads.{peek_read}
 use Rattle.bunser.proofs.Telling.{ok_err, err_is, told_placed}
-use Rattle.room.specs.Open.{Column, Open, column_bytes, keys_held, bytes_held}
+use Rattle.room.specs.Open.{Column, Open, column_bytes, depth, keys_held, bytes_held}
 use Rattle.room.specs.Opened.{Opened}
 use Rattle.room.specs.KeyList.{listed_read, levelled, listed, key_list_read, KeysTold, ListTold}
 use Rattle.room.specs.declared.depth.Depth.{Depth}
 use Rattle.room.specs.Opens.{opened, Kept}
 use Rattle.room.specs.declared.opens.Opens.TheInside.{Inside}
-use Rattle.room.proofs.Innermost.{own_keys, own_bytes, listing_kept, listing_opened}
+use Rattle.room.proofs.Innermost.{two_left, own_keys, own_bytes, listing_kept, listing_opened}
 
 -- the keys go behind those that are there
 record Grown (m : Outcome Refusal (List Column)) (keys : List Column) (r : Result Unit Refusal) (keys' : List Column) (w : View) : Type 0 where
@@ -28,8 +28,13 @@ grown_by : (m : Outcome Refusal (List Column)) (keys : List Column) (r : Result 
 grown_by (got ks v) keys r keys' w (x, y, z) = record { more = ks; grown = z; told = λ old ok. (x, y, refl) }
 grown_by (bad f v) keys r keys' w (x, y, more, z) = record { more = more; grown = z; told = λ old ok. ok_err (sym ok ∙ x) }
 
-module _ (r : Inside) (kept : Kept r) (old : Opened) (is : opened r ≡ old) (none : old.listed ≡ []) (lends : Bool) (end : Option ℕ) (v w : View) (keys : List Column) (d : Depth) (same : d.free ≡ r.depth.free) (few : length keys ≤ 256)
-    (s : Result Unit Refusal) (h : KeysTold (listed_read lends end (length r.keys) (column_bytes r.keys) v) r.keys s keys w) where
+-- a list was read, and both levels are given back
+module _ (r : Inside) (kept : Kept r) (old : Opened) (is : opened r ≡ old) (none : old.listed ≡ []) (free : depth old.opens + 1 < 128) (below d : Depth) (one : ℕ)
+    (taken : below ≡ record { free = r.depth.free - 2 }) (list : one ≡ below.free + 1) (own : d ≡ record { free = one + 1 })
+    (lends : Bool) (end : Option ℕ) (v w : View) (keys : List Column) (few : length keys ≤ 256) (s : Result Unit Refusal) (h : KeysTold (listed_read lends end (length r.keys) (column_bytes r.keys) v) r.keys s keys w) where
+  same : d.free ≡ r.depth.free
+  same = let two = two_left r kept old is free in let a = ap (λ d. d.free) own in let b = ap (λ d. d.free) taken in omega arith
+
   none_left : drop r.own r.keys ≡ []
   none_left = ap (λ o. o.listed) is ∙ none
 

@@ -1,5 +1,5 @@
 -- The keys of a list are read one after the other.
-use Rattle.std.proofs.Common.{◌≡◌, ℕ, suc, ◌+◌, Bool, List, [], ◌∷◌, ◌++◌, length, IsErrAnd, Ok, Err, Option, Result, sym, refl, ap, ◌∙◌, subst, arith, length-append}
+use Rattle.std.proofs.Common.{◌≡◌, ℕ, suc, ◌+◌, ◌-◌, ◌<◌, Bool, List, [], ◌∷◌, ◌++◌, length, IsErrAnd, Ok, Err, Option, Result, sym, refl, ap, ◌∙◌, subst, arith, length-append}
 use Rattle.std.proofs.lemmas.List.{append_assoc, append-nil}
 use Rattle.read.specs.Reader.{View}
 use Rattle.format.specs.declared.refusal.Refusal.{Refusal}
@@ -40,7 +40,7 @@ module _ (lends : Bool) (end : Option ℕ) where
   pub none_left : (old : List Column) (v : View) → KeysTold (keys_read lends end (column_bytes old) 0 v) old (Ok tt) old v
   none_left old v = (refl, refl, sym (append-nil old))
 
-  pub keys_stop : (n : ℕ) (old new : List Column) (v w : View) (f : Refusal) (s : Result Unit Refusal) → KeyTold (key_read lends end (column_bytes old) v) old (Err f) new w → IsErrAnd s (λ g. g ≡ f) →
+  keys_stop : (n : ℕ) (old new : List Column) (v w : View) (f : Refusal) (s : Result Unit Refusal) → KeyTold (key_read lends end (column_bytes old) v) old (Err f) new w → IsErrAnd s (λ g. g ≡ f) →
       KeysTold (keys_read lends end (column_bytes old) (suc n) v) old s new w
   keys_stop n old new v w f s h e = go (key_read lends end (column_bytes old) v) h
     where
@@ -48,7 +48,7 @@ module _ (lends : Bool) (end : Option ℕ) where
       go (got k u) (x, y, z) = ok_err (sym x)
       go (bad g u) (x, y, z) = let q : f ≡ g = cc in (err_is s f e ∙ ap Err q, y, [], z ∙ sym (append-nil old))
 
-  pub one_more : (n : ℕ) (old new : List Column) (v w : View) → KeyTold (key_read lends end (column_bytes old) v) old (Ok tt) new w → Onward (suc n) old v n new w
+  one_more : (n : ℕ) (old new : List Column) (v w : View) → KeyTold (key_read lends end (column_bytes old) v) old (Ok tt) new w → Onward (suc n) old v n new w
   one_more n old new v w h r last u k = go (key_read lends end (column_bytes old) v) h
     where
       go : (m : Outcome Refusal Column) → KeyTold m old (Ok tt) new w → KeysTold (and_then m (λ k w. and_then (keys_read lends end (column_bytes old + column_bytes (k ∷ [])) n w) (λ ks u. got (k ∷ ks) u))) old r last u
@@ -59,9 +59,26 @@ module _ (lends : Bool) (end : Option ℕ) where
           by (got ks a) (p, q, s) = (p, q, s ∙ ap (λ l. l ++ ks) z ∙ append_assoc old (c ∷ []) ks)
           by (bad f a) (p, q, more, s) = (p, q, c ∷ more, s ∙ ap (λ l. l ++ more) z ∙ append_assoc old (c ∷ []) more)
 
-  pub one_longer : (old new : List Column) (v w : View) → KeyTold (key_read lends end (column_bytes old) v) old (Ok tt) new w → length new ≡ length old + 1
+  one_longer : (old new : List Column) (v w : View) → KeyTold (key_read lends end (column_bytes old) v) old (Ok tt) new w → length new ≡ length old + 1
   one_longer old new v w h = go (key_read lends end (column_bytes old) v) h
     where
       go : (m : Outcome Refusal Column) → KeyTold m old (Ok tt) new w → length new ≡ length old + 1
       go (got c t) (x, y, z) = ap length z ∙ length-append old (c ∷ [])
       go (bad g t) (x, y, z) = ok_err x
+
+  -- the next of the keys that are left is read
+  module _ (n k : ℕ) (old now new : List Column) (v w u : View) (e : Option ℕ) (some : k < n) (same : e ≡ end) (rest : Onward n old v (n - k) now w) where
+    one_left : n - k ≡ suc (n - (k + 1))
+    one_left = omega arith
+
+    onward : Onward n old v (suc (n - (k + 1))) now w
+    onward = subst (λ m. Onward n old v m now w) one_left rest
+
+    by_end : (r : Result Unit Refusal) → KeyTold (key_read lends e (column_bytes now) w) now r new u → KeyTold (key_read lends end (column_bytes now) w) now r new u
+    by_end r = subst (λ e. KeyTold (key_read lends e (column_bytes now) w) now r new u) same
+
+    pub next_stop : (f : Refusal) (s : Result Unit Refusal) → KeyTold (key_read lends e (column_bytes now) w) now (Err f) new u → IsErrAnd s (λ g. g ≡ f) → KeysTold (keys_read lends end (column_bytes old) n v) old s new u
+    next_stop f s h is = onward s new u (keys_stop (n - (k + 1)) now new w u f s (by_end (Err f) h) is)
+
+    pub next_more : KeyTold (key_read lends e (column_bytes now) w) now (Ok tt) new u → Onward n old v (n - (k + 1)) new u × (length new ≡ length now + 1)
+    next_more h = (λ r last x q. onward r last x (one_more (n - (k + 1)) now new w u (by_end (Ok tt) h) r last x q), one_longer now new w u (by_end (Ok tt) h))
