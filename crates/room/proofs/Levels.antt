@@ -18,35 +18,25 @@ frame_any [] i d lt = absurd (omega arith)
 frame_any (f ∷ fs) zero d lt = refl
 frame_any (f ∷ fs) (suc i) d lt = frame_any fs i d (omega arith)
 
+-- what a frame that takes a level adds
+over_told : (held : List Column) (f : Frame) (own : ℕ) (s : List (Open Column)) → Ends f own → (depth (over held f s) ≡ suc (depth s)) × (nesting (over held f s) ≡ suc (in_row f + nesting s)) × (ended (over held f s) ≡ s)
+over_told held frame.Done own s h = absurd h
+over_told held frame.Start own s h = absurd h
+over_told held (frame.Items n) own s h = (refl, ap suc (omega arith), refl)
+over_told held (frame.Pairs n) own s h = (refl, ap suc (omega arith), refl)
+over_told held (frame.Field n) own s h = (refl, ap suc (omega arith), refl)
+over_told held (frame.Rows t n) own s h = (refl, ap suc (omega arith), refl)
+over_told held (frame.Row t n i) own s h = (refl, ap suc (omega arith), refl)
+over_told held (frame.Cell t n i) own s h = (refl, ap suc (omega arith), refl)
+
 depth_over : (held : List Column) (f : Frame) (own : ℕ) (s : List (Open Column)) → Ends f own → depth (over held f s) ≡ suc (depth s)
-depth_over held frame.Done own s h = absurd h
-depth_over held frame.Start own s h = absurd h
-depth_over held (frame.Items n) own s h = refl
-depth_over held (frame.Pairs n) own s h = refl
-depth_over held (frame.Field n) own s h = refl
-depth_over held (frame.Rows t n) own s h = refl
-depth_over held (frame.Row t n i) own s h = refl
-depth_over held (frame.Cell t n i) own s h = refl
+depth_over held f own s h = (over_told held f own s h).0
 
 nesting_over : (held : List Column) (f : Frame) (own : ℕ) (s : List (Open Column)) → Ends f own → nesting (over held f s) ≡ suc (in_row f + nesting s)
-nesting_over held frame.Done own s h = absurd h
-nesting_over held frame.Start own s h = absurd h
-nesting_over held (frame.Items n) own s h = ap suc (omega arith)
-nesting_over held (frame.Pairs n) own s h = ap suc (omega arith)
-nesting_over held (frame.Field n) own s h = ap suc (omega arith)
-nesting_over held (frame.Rows t n) own s h = ap suc (omega arith)
-nesting_over held (frame.Row t n i) own s h = ap suc (omega arith)
-nesting_over held (frame.Cell t n i) own s h = ap suc (omega arith)
+nesting_over held f own s h = (over_told held f own s h).1
 
 pub ended_over : (held : List Column) (f : Frame) (own : ℕ) (s : List (Open Column)) → Ends f own → ended (over held f s) ≡ s
-ended_over held frame.Done own s h = absurd h
-ended_over held frame.Start own s h = absurd h
-ended_over held (frame.Items n) own s h = refl
-ended_over held (frame.Pairs n) own s h = refl
-ended_over held (frame.Field n) own s h = refl
-ended_over held (frame.Rows t n) own s h = refl
-ended_over held (frame.Row t n i) own s h = refl
-ended_over held (frame.Cell t n i) own s h = refl
+ended_over held f own s h = (over_told held f own s h).2
 
 pub below_less : (f : Frame) (own : ℕ) → Ends f own → below f own ≤ own
 below_less frame.Done own h = absurd h
