@@ -224,23 +224,41 @@ module _ (end : Option ℕ) (n : ℕ) (v w : View) (left : ℕ) (a : Await) (d :
 
 -- a read of a piece of a reader that copies
 module _ (lends : Bool) (end end' : Option ℕ) (piece : List ℕ) (k : ℕ) (w : View) (copies : lends ≡ false) (ends : end ≡ end') (long : length piece ≡ 64) where
-  pub piece_read : (r : Result Taken ReadError) (u : View) → Tells (bytes_read lends end (room lends piece) k w) r u → Tells (bytes_read false end' (Some 64) k w) r u
+  piece_read : (r : Result Taken ReadError) (u : View) → Tells (bytes_read lends end (room lends piece) k w) r u → Tells (bytes_read false end' (Some 64) k w) r u
   piece_read r u h =
       subst (λ m. Tells (bytes_read false end' (Some m) k w) r u) long
       (subst (λ x. Tells (bytes_read false x (Some (length piece)) k w) r u) ends
       (subst (λ b. Tells (bytes_read b end (room b piece) k w) r u) copies h))
 
-  pub piece_put : (piece' : List ℕ) → piece' ≡ put lends (fronts (asked end w (room lends piece) k) k w) piece → piece' ≡ put false (fronts (asked end' w (Some 64) k) k w) piece
+  piece_put : (piece' : List ℕ) → piece' ≡ put lends (fronts (asked end w (room lends piece) k) k w) piece → piece' ≡ put false (fronts (asked end' w (Some 64) k) k w) piece
   piece_put piece' at =
       at
       ∙ ap (λ b. put b (fronts (asked end w (room b piece) k) k w) piece) copies
       ∙ ap (λ x. put false (fronts (asked x w (Some (length piece)) k) k w) piece) ends
       ∙ ap (λ m. put false (fronts (asked end' w (Some m) k) k w) piece) long
 
--- a `?` behind a piece of a reader that copies
-pub piece_stop : (checked lends : Bool) (end end' : Option ℕ) (n : ℕ) (v w u : View) (left k : ℕ) (a : Await) (piece : List ℕ) (e : ReadError) (r : Result Unit ReadError) →
-    Drawn n v w left a → k ≤ 64 → k ≤ left → past end' (v.count + n) ≡ false → past v.stop (v.count + n) ≡ false → lends ≡ false → end ≡ end' → length piece ≡ 64 →
-    Tells (bytes_read lends end (room lends piece) k w) (Err e) u → IsErrAnd r (λ f. f ≡ e) → Tells (pass_read checked lends end' n v) r u
-piece_stop checked lends end end' n v w u left k a piece e r d few within ends stops copies same long h by =
-    let told = drawn_stop end' n v w left a d k few within ends stops checked e u (piece_read lends end end' piece k w copies same long (Err e) u h) in
-    subst (λ b. Tells (pass_read checked b end' n v) r u) (sym copies) (subst (λ r. Tells (pass_read checked false end' n v) r u) (sym (err_is r e by)) told)
+-- a piece of a reader that copies, behind those that were drawn
+module _ (lends : Bool) (end end' : Option ℕ) (n : ℕ) (v w : View) (left : ℕ) (a : Await) (piece : List ℕ) (d : Drawn n v w left a) (copies : lends ≡ false) (same : end ≡ end') (long : length piece ≡ 64) where
+  -- a whole piece has come, and more of the text is left
+  pub piece_more : (less : ℕ) (u : View) (taken : Taken) (piece' : List ℕ) (b : Await) → 64 ≤ left → left - 64 ≡ less → length piece' ≡ 64 → Tells (bytes_read lends end (room lends piece) 64 w) (Ok taken) u →
+      piece' ≡ put lends (fronts (asked end w (room lends piece) 64) 64 w) piece → b ≡ all_turned a piece' → Drawn n v u less b
+  piece_more less u taken piece' b more is long' h put turned =
+      subst (λ k. Drawn n v u k b) is (drawn_more end' n v w left a d u taken piece piece' b more long' (piece_read lends end end' piece 64 w copies same long (Ok taken) u h) (piece_put lends end end' piece 64 w copies same long piece' put) turned)
+
+  module _ (checked : Bool) (ends : past end' (v.count + n) ≡ false) (stops : past v.stop (v.count + n) ≡ false) where
+    by_copy : (r : Result Unit ReadError) (u : View) → Tells (pass_read checked false end' n v) r u → Tells (pass_read checked lends end' n v) r u
+    by_copy r u = subst (λ b. Tells (pass_read checked b end' n v) r u) (sym copies)
+
+    -- a `?` behind it
+    pub piece_stop : (k : ℕ) (u : View) (e : ReadError) (r : Result Unit ReadError) → k ≤ 64 → k ≤ left → Tells (bytes_read lends end (room lends piece) k w) (Err e) u → IsErrAnd r (λ f. f ≡ e) → Tells (pass_read checked lends end' n v) r u
+    piece_stop k u e r few within h by =
+        let told = drawn_stop end' n v w left a d k few within ends stops checked e u (piece_read lends end end' piece k w copies same long (Err e) u h) in
+        by_copy r u (subst (λ r. Tells (pass_read checked false end' n v) r u) (sym (err_is r e by)) told)
+
+    -- the last piece has come
+    pub piece_last : (u : View) (taken : Taken) (piece' part : List ℕ) (b : Await) (r : Result Unit ReadError) → left ≤ 64 → Tells (bytes_read lends end (room lends piece) left w) (Ok taken) u →
+        piece' ≡ put lends (fronts (asked end w (room lends piece) left) left w) piece → part ≡ take left piece' → b ≡ all_turned a part → r ≡ verdict_of checked (complete b) → Tells (pass_read checked lends end' n v) r u
+    piece_last u taken piece' part b r few h put cut turned told =
+        let came = piece_read lends end end' piece left w copies same long (Ok taken) u h in
+        let at = piece_put lends end end' piece left w copies same long piece' put in
+        by_copy r u (passed_over end' n v w left a d ends stops u few taken came piece piece' part b at cut turned checked r told)
