@@ -7,68 +7,40 @@ use Rattle.format.specs.declared.refusal.Cause.TheVariants.{OutOfTurn, Token, Re
 use Rattle.format.specs.declared.refusal.Layer.{Layer}
 use Rattle.format.specs.declared.refusal.Layer.TheVariants as layer
 
+-- of each: its number, its layer, and whether it latches
+abbrev pub read_traits : ReadError → ℕ × Layer × Bool
+read_traits Short = (3, layer.Reader, true)
+read_traits (Source code) = (4, layer.Source, true)
+read_traits (Magic bytes) = (5, layer.Decoder, true)
+read_traits (Byte kind b) = (6, layer.Decoder, true)
+read_traits Negative = (7, layer.Decoder, true)
+read_traits TooLong = (8, layer.Decoder, true)
+read_traits End = (9, layer.Decoder, true)
+read_traits Stop = (9, layer.Reader, true)
+read_traits NotText = (13, layer.Decoder, true)
+read_traits Room = (14, layer.Decoder, false)
+
+abbrev pub traits : Cause → ℕ × Layer × Bool
+traits OutOfTurn = (1, layer.Decoder, false)
+traits Token = (2, layer.Decoder, false)
+traits (Read e) = read_traits e
+traits Depth = (10, layer.Decoder, true)
+traits KeyRoom = (11, layer.Decoder, true)
+traits NoKeys = (12, layer.Decoder, true)
+traits Unfinished = (15, layer.Decoder, true)
+traits (Length expected count) = (16, layer.Decoder, true)
+
 abbrev pub read_number : ReadError → ℕ
-read_number Short = 3
-read_number (Source code) = 4
-read_number (Magic bytes) = 5
-read_number (Byte kind b) = 6
-read_number Negative = 7
-read_number TooLong = 8
-read_number End = 9
-read_number Stop = 9
-read_number NotText = 13
-read_number Room = 14
+read_number e = (read_traits e).0
 
 abbrev pub number_of : Cause → ℕ
-number_of OutOfTurn = 1
-number_of Token = 2
-number_of (Read e) = read_number e
-number_of Depth = 10
-number_of KeyRoom = 11
-number_of NoKeys = 12
-number_of Unfinished = 15
-number_of (Length expected count) = 16
-
-abbrev pub read_layer : ReadError → Layer
-read_layer Short = layer.Reader
-read_layer (Source code) = layer.Source
-read_layer (Magic bytes) = layer.Decoder
-read_layer (Byte kind b) = layer.Decoder
-read_layer Negative = layer.Decoder
-read_layer TooLong = layer.Decoder
-read_layer End = layer.Decoder
-read_layer Stop = layer.Reader
-read_layer NotText = layer.Decoder
-read_layer Room = layer.Decoder
+number_of c = (traits c).0
 
 abbrev pub layer_of : Cause → Layer
-layer_of OutOfTurn = layer.Decoder
-layer_of Token = layer.Decoder
-layer_of (Read e) = read_layer e
-layer_of Depth = layer.Decoder
-layer_of KeyRoom = layer.Decoder
-layer_of NoKeys = layer.Decoder
-layer_of Unfinished = layer.Decoder
-layer_of (Length expected count) = layer.Decoder
+layer_of c = (traits c).1
 
 abbrev pub read_latching : ReadError → Bool
-read_latching Short = true
-read_latching (Source code) = true
-read_latching (Magic bytes) = true
-read_latching (Byte kind b) = true
-read_latching Negative = true
-read_latching TooLong = true
-read_latching End = true
-read_latching Stop = true
-read_latching NotText = true
-read_latching Room = false
+read_latching e = (read_traits e).2
 
 abbrev pub latching : Cause → Bool
-latching OutOfTurn = false
-latching Token = false
-latching (Read e) = read_latching e
-latching Depth = true
-latching KeyRoom = true
-latching NoKeys = true
-latching Unfinished = true
-latching (Length expected count) = true
+latching c = (traits c).2
