@@ -62,11 +62,9 @@ impl Slot {
         ensures { result ≡ spanned kind span }
     {
         Slot {
-            kind,
-            width: 0,
-            value: 0,
             place: place(span.taken),
             length: span.len,
+            ..Slot::bare(kind)
         }
     }
 
@@ -81,18 +79,13 @@ impl Slot {
             Event::MapEnd => Slot::bare(4),
             Event::Key(span) => Slot::spanned(5, span),
             Event::Int(width, value) => Slot {
-                kind: 6,
                 width: bits(width),
                 value: value.cast_unsigned(),
-                place: 0,
-                length: 0,
+                ..Slot::bare(6)
             },
             Event::Real(value) => Slot {
-                kind: 7,
-                width: 0,
                 value,
-                place: 0,
-                length: 0,
+                ..Slot::bare(7)
             },
             Event::Bytes(span) => Slot::spanned(8, span),
             Event::Text(span) => Slot::spanned(9, span),
