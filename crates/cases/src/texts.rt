@@ -48,29 +48,19 @@ fn text_is(rt: &impl Abort, bytes: &[u8], refused: Option<ReadError>, after: [u8
     assert_eq!(rt; copied.read_count(), bytes.len());
 }
 
+// The same of bytes that are no text.
+fn is_no_text(rt: &impl Abort, bytes: &[u8], after: [u8; 5]) {
+    text_is(rt, bytes, Some(ReadError::NotText), after);
+}
+
 #[test]
 fn a_text_has_to_be_utf8_and_is_taken_either_way(rt: HostRuntime) {
     text_is(&rt, b"", None, [0xee; 5]);
     text_is(&rt, b"abc", None, *b"abc\xee\xee");
     text_is(&rt, b"\xd8\xa7\xe2\x82\xac", None, *b"\xd8\xa7\xe2\x82\xac");
-    text_is(
-        &rt,
-        b"\xc0\x80",
-        Some(ReadError::NotText),
-        [0, 0, 0xee, 0xee, 0xee],
-    );
-    text_is(
-        &rt,
-        b"a\xed\xa0\x80",
-        Some(ReadError::NotText),
-        [0, 0, 0, 0, 0xee],
-    );
-    text_is(
-        &rt,
-        b"\xe2\x82",
-        Some(ReadError::NotText),
-        [0, 0, 0xee, 0xee, 0xee],
-    );
+    is_no_text(&rt, b"\xc0\x80", [0, 0, 0xee, 0xee, 0xee]);
+    is_no_text(&rt, b"a\xed\xa0\x80", [0, 0, 0, 0, 0xee]);
+    is_no_text(&rt, b"\xe2\x82", [0, 0, 0xee, 0xee, 0xee]);
 }
 
 #[test]
