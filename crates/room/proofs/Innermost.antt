@@ -81,11 +81,20 @@ module _ (r : Inside) (kept : Kept r) where
       rows = let k = rows_over r.top g r.frames n r.own same kept.stacked in let e = kept.rows in let l = rows_less in omega arith;
     }
 
-    pub changed_opens : (op : List (Open Column) → List (Open Column)) → op (over r.keys r.top below_top) ≡ over r.keys g below_top → opened changed ≡ with_opens (opened r) (op (opened r).opens)
-    changed_opens op is = ap (λ s. record { opens = s; listed = drop r.own r.keys }) (opens_top r.keys g r.frames n ∙ sym is ∙ ap op (sym opens_are))
+    pub changed_opens : (old : Opened) → opened r ≡ old → (op : List (Open Column) → List (Open Column)) → op (over r.keys r.top below_top) ≡ over r.keys g below_top → opened changed ≡ with_opens old (op old.opens)
+    changed_opens old was op is = ap (λ s. record { opens = s; listed = drop r.own r.keys }) (opens_top r.keys g r.frames n ∙ sym is ∙ ap op (sym opens_are)) ∙ ap (λ o. with_opens o (op o.opens)) was
 
-  pub same_rows : (g : Frame) → in_row g ≡ in_row r.top → r.rows ≡ r.rows - in_row r.top + in_row g
-  same_rows g is = let k = rows_less in omega arith
+  -- one that is in a row where that one is
+  module _ (g : Frame) (same : Over r.top g) (like : in_row g ≡ in_row r.top) where
+    same_rows : r.rows ≡ r.rows - in_row r.top + in_row g
+    same_rows = let k = rows_less in omega arith
+
+    pub like_kept : Kept (record { top = g; frames = r.frames; depth = r.depth; rows = r.rows; keys = r.keys; own = r.own })
+    like_kept = changed_kept g same r.rows same_rows
+
+    pub like_opens : (old : Opened) → opened r ≡ old → (op : List (Open Column) → List (Open Column)) → op (over r.keys r.top below_top) ≡ over r.keys g below_top →
+        opened (record { top = g; frames = r.frames; depth = r.depth; rows = r.rows; keys = r.keys; own = r.own }) ≡ with_opens old (op old.opens)
+    like_opens = changed_opens g same r.rows same_rows
 
   -- ---- a level more
 

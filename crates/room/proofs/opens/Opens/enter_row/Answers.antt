@@ -1,6 +1,5 @@
-use Rattle.std.proofs.Common.{◌+◌, ◌-◌, ap, ◌∙◌, arith}
+use Rattle.std.proofs.Common.{◌+◌, ◌-◌, arith}
 use Rattle.room.specs.Open.{within_row}
-use Rattle.room.specs.Opened.{with_opens}
 use Rattle.room.proofs.Levels.{in_row_few}
 use Rattle.room.proofs.Innermost.{changed_kept, changed_opens, below_top, nesting_few}
 use Rattle.room.proofs.opens.Opens.enter_row.Goals as goal
@@ -14,5 +13,4 @@ invariant_of-self c = changed_kept c.self.inside c.self.invariant c.enter_row.ne
 pub returns : goal.returns
 returns c =
     changed_opens c.self.inside c.self.invariant c.enter_row.new.self c.enter_row.ensures.over (c.self.inside.rows - c.rows.result + c.rows-2.result) (omega arith)
-    (within_row c.args.cells) (c.enter_row.ensures.turns c.self.inside.keys (below_top c.self.inside c.self.invariant))
-    ∙ ap (λ o. with_opens o (within_row c.args.cells o.opens)) c.self.view_is
+    _ c.self.view_is (within_row c.args.cells) (c.enter_row.ensures.turns c.self.inside.keys (below_top c.self.inside c.self.invariant))

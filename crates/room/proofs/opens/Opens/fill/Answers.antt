@@ -1,14 +1,9 @@
-use Rattle.std.proofs.Common.{ap, ◌∙◌}
 use Rattle.room.specs.Open.{filled}
-use Rattle.room.specs.Opened.{with_opens}
-use Rattle.room.proofs.Innermost.{changed_kept, changed_opens, same_rows, below_top}
+use Rattle.room.proofs.Innermost.{like_kept, like_opens, below_top}
 use Rattle.room.proofs.opens.Opens.fill.Goals as goal
 
 pub invariant_of-self : goal.invariant_of-self
-invariant_of-self c = changed_kept c.self.inside c.self.invariant c.fill.new.self c.fill.ensures.over c.self.inside.rows (same_rows c.self.inside c.self.invariant c.fill.new.self c.fill.ensures.rows)
+invariant_of-self c = like_kept c.self.inside c.self.invariant _ c.fill.ensures.over c.fill.ensures.rows
 
 pub returns : goal.returns
-returns c =
-    changed_opens c.self.inside c.self.invariant c.fill.new.self c.fill.ensures.over c.self.inside.rows (same_rows c.self.inside c.self.invariant c.fill.new.self c.fill.ensures.rows)
-    filled (c.fill.ensures.fills c.self.inside.keys (below_top c.self.inside c.self.invariant))
-    ∙ ap (λ o. with_opens o (filled o.opens)) c.self.view_is
+returns c = like_opens c.self.inside c.self.invariant _ c.fill.ensures.over c.fill.ensures.rows _ c.self.view_is filled (c.fill.ensures.fills c.self.inside.keys (below_top c.self.inside c.self.invariant))

@@ -1,6 +1,5 @@
-use Rattle.std.proofs.Common.{◌+◌, ◌-◌, ap, ◌∙◌, arith}
+use Rattle.std.proofs.Common.{◌+◌, ◌-◌, arith}
 use Rattle.room.specs.Open.{row_turned}
-use Rattle.room.specs.Opened.{with_opens}
 use Rattle.room.proofs.Levels.{in_row_few}
 use Rattle.room.proofs.Innermost.{changed_kept, changed_opens, below_top, top_fits, nesting_few}
 use Rattle.room.proofs.opens.Opens.turn.Goals as goal
@@ -14,5 +13,4 @@ invariant_of-self c = changed_kept c.self.inside c.self.invariant c.turn.new.sel
 pub returns : goal.returns
 returns c =
     changed_opens c.self.inside c.self.invariant c.turn.new.self c.turn.ensures.over (c.self.inside.rows - c.rows.result + c.rows-2.result) (omega arith)
-    row_turned (c.turn.ensures.turns c.self.inside.keys (below_top c.self.inside c.self.invariant) (top_fits c.self.inside c.self.invariant))
-    ∙ ap (λ o. with_opens o (row_turned o.opens)) c.self.view_is
+    _ c.self.view_is row_turned (c.turn.ensures.turns c.self.inside.keys (below_top c.self.inside c.self.invariant) (top_fits c.self.inside c.self.invariant))
