@@ -2,8 +2,8 @@
 use Rattle.std.specs.Prelude.{◌≡◌, ℕ, zero, suc, ◌-◌, ◌^◌, [], ◌∷◌, replicate, pos, negsuc}
 use Rattle.format.specs.declared.width.Width.{Width}
 use Rattle.format.specs.declared.width.Width.TheVariants.{W8, W16, W32, W64}
-use Rattle.values.specs.Values.{Value, Values, Pairs, Rows, Key, as_text, null, yes_value, integer, real, bytes, text, array, object, template, no_values, value, no_pairs, pair, no_rows, row, no_cells, gap, cell, encoding, key_encoding, events, map_begin, map_end, key, some_text, is_true, is_null, Formed, KeyFormed}
-use Rattle.values.specs.Limits.{Limits, lending, copying, Within}
+use Rattle.values.specs.Values.{Value, Values, Pairs, Rows, Key, as_text, null, yes_value, no_value, integer, real, bytes, text, array, object, template, no_values, value, no_pairs, pair, no_rows, row, no_cells, gap, cell, encoding, key_encoding, events, map_begin, map_end, key, some_text, is_true, is_null, Formed, KeyFormed}
+use Rattle.values.specs.Limits.{Limits, none, lending, copying, Within, ValuesWithin, PairsWithin, RowsWithin, CellsWithin}
 use Rattle.values.specs.Examples.{named, cp, overlong, no_table}
 
 -- the key "k" as a text, with its length in two bytes
@@ -49,6 +49,23 @@ in_object v = object W8 (pair (named cp) v no_pairs)
 -- a template with a key of two bytes, and one row of this cell
 abbrev pub in_row : Value → Value
 in_row v = template W8 (named cp ∷ []) W8 (row (cell v no_cells) no_rows)
+
+-- a value that holds no other takes no level, no key and no key bytes; nor does what stands behind the last
+abbrev pub TakesNone : Limits → Type 0
+TakesNone L = record {
+  null_takes : Within null L 128 256 4096;
+  yes_takes : Within yes_value L 128 256 4096;
+  no_takes : Within no_value L 128 256 4096;
+  integer_takes : Within (integer W8 (pos 0)) L 128 256 4096;
+  real_takes : Within (real 0) L 128 256 4096;
+  bytes_takes : Within (bytes W8 []) L 128 256 4096;
+  text_takes : Within (text W8 []) L 128 256 4096;
+  last_value : ValuesWithin no_values L 128 256 4096;
+  last_pair : PairsWithin no_pairs L 128 256 4096;
+  last_row : RowsWithin no_rows L 128 256 4096;
+  last_cell : CellsWithin no_cells L 128 256 4096;
+  gap_takes : CellsWithin (gap no_cells) L 128 256 4096;
+}
 
 -- where so many levels, keys and key bytes are taken
 abbrev pub AtLimits : Limits → Type 0
@@ -125,6 +142,13 @@ Edges = record {
   row_long : Formed (template W8 [] W8 (row (gap no_cells) no_rows)) → ⊥;
   lending_limits : AtLimits lending;
   copying_limits : AtLimits copying;
+  lending_takes : TakesNone lending;
+  copying_takes : TakesNone copying;
+  -- where there are no limits
+  any_level : Within empty none 128 0 0;
+  any_key : Within (in_row null) none 0 256 0;
+  any_key_bytes : Within (in_row null) none 0 0 4096;
+  any_rows : Within (template W8 [] W8 (row no_cells no_rows)) none 0 0 0;
   -- a key that is lent takes no bytes
   lent_bytes : (n : ℕ) → Within (in_row null) lending 0 0 n;
   key_bytes : Within (in_row null) copying 0 0 4094;
