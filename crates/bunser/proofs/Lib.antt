@@ -1,6 +1,7 @@
 pub mod Bytes
 pub mod Telling
 pub mod Asking
+pub mod Granting
 pub mod Integers
 pub mod Headers
 pub mod Texts

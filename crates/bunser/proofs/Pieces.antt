@@ -1,6 +1,6 @@
 -- A text that is drawn in pieces comes to what one read of it would.
-use Rattle.std.proofs.Common.{◌≡◌, ℕ, zero, suc, ◌+◌, ◌-◌, ◌*◌, ◌/◌, ◌<◌, ◌≤◌, Bool, true, false, cond, eqb, ltb, List, length, take, drop, Some, None, IsErrAnd, Ok, Err, Option, Result, sym, refl, ap, ◌∙◌, subst, add-zero, add_assoc, arith, length-drop, length-take, drop-drop, take-add}
-use Rattle.std.proofs.lemmas.Bool.{ne_eqb, le-ltb, lt-ltb, ltb-false, ltb-true}
+use Rattle.std.proofs.Common.{◌≡◌, ℕ, ◌+◌, ◌-◌, ◌*◌, ◌/◌, ◌<◌, ◌≤◌, Bool, true, false, cond, ltb, List, length, take, drop, Some, None, IsErrAnd, Ok, Err, Option, Result, sym, refl, ap, ◌∙◌, subst, arith, length-drop, length-take, take-add}
+use Rattle.std.proofs.lemmas.Bool.{le-ltb, lt-ltb, ltb-false, ltb-true}
 use Rattle.std.proofs.lemmas.List.{take_all, take_at}
 use Rattle.utf8.specs.Utf8.{Await, character, utf8}
 use Rattle.utf8.specs.Pieces.{all_turned, complete}
@@ -18,22 +18,7 @@ use Rattle.bunser.specs.Texts.{textual, text_read}
 use Rattle.bunser.specs.Passing.{verdict_of, passing, whole_read, pass_read}
 use Rattle.bunser.proofs.Telling.{ok_err, err_is}
 use Rattle.bunser.proofs.Asking.{granted, Given, given}
-
-pub advanced_none : (v : View) → v ≡ advanced false 0 v
-advanced_none v = ap (λ n. record { coming = v.coming; ending = v.ending; count = n; stop = v.stop; peeked = v.peeked; kept = v.kept }) (sym (add-zero v.count))
-
-still_held : (t k : ℕ) (p : Bool) → cond (eqb k 0) (cond (eqb t 0) p false) false ≡ cond (eqb (t + k) 0) p false
-still_held zero zero p = refl
-still_held (suc t) zero p = ap (λ b. cond b p false) (ne_eqb (suc t) 0 (λ e. omega arith)) ∙ sym (ap (λ b. cond b p false) (ne_eqb (suc t + 0) 0 (λ e. omega arith)))
-still_held t (suc k) p =
-    ap (λ b. cond b (cond (eqb t 0) p false) false) (ne_eqb (suc k) 0 (λ e. omega arith))
-    ∙ sym (ap (λ b. cond b p false) (ne_eqb (t + suc k) 0 (λ e. omega arith)))
-
-pub advanced_more : (t k : ℕ) (v : View) → advanced false k (advanced false t v) ≡ advanced false (t + k) v
-advanced_more t k v =
-    ap (λ l. record { coming = l; ending = v.ending; count = (v.count + t) + k; stop = v.stop; peeked = cond (eqb k 0) (cond (eqb t 0) v.peeked false) false; kept = v.kept }) (drop-drop k t v.coming)
-    ∙ ap (λ n. record { coming = drop (t + k) v.coming; ending = v.ending; count = n; stop = v.stop; peeked = cond (eqb k 0) (cond (eqb t 0) v.peeked false) false; kept = v.kept }) (add_assoc v.count t k)
-    ∙ ap (λ p. record { coming = drop (t + k) v.coming; ending = v.ending; count = v.count + (t + k); stop = v.stop; peeked = p; kept = v.kept }) (still_held t k v.peeked)
+use Rattle.bunser.proofs.Granting.{advanced_none, advanced_more}
 
 -- so many bytes of a text are left, the others were drawn in whole pieces
 pub record Drawn (n : ℕ) (v w : View) (left : ℕ) (a : Await) : Type 0 where
@@ -50,7 +35,7 @@ drawn_none n v =
       rest = omega arith;
       whole = ap (λ k. 64 * (k / 64)) (sym z) ∙ z;
       there = omega arith;
-      reader = advanced_none v ∙ ap (λ k. advanced false k v) z;
+      reader = sym (advanced_none false v) ∙ ap (λ k. advanced false k v) z;
       state = ap (λ k. all_turned character (take k v.coming)) z;
     }
 
@@ -78,7 +63,7 @@ module _ (end : Option ℕ) (n : ℕ) (v w : View) (left : ℕ) (a : Await) (d :
       enough = granted end w (Some 64) k grant.granted_it
 
       pub moved_on : u ≡ advanced false (n - (left - k)) v
-      moved_on = grant.left ∙ ap (advanced false k) d.reader ∙ advanced_more (n - left) k v ∙ ap (λ m. advanced false m v) sum
+      moved_on = grant.left ∙ ap (advanced false k) d.reader ∙ advanced_more false (n - left) k v ∙ ap (λ m. advanced false m v) sum
 
       pub still_there : n - (left - k) ≤ length v.coming
       still_there = let e = enough in let l = came_long in let r = d.rest in let t = d.there in omega arith

@@ -1,7 +1,7 @@
 //! Numbers, texts and the header of a PDU, over any reader.
 #![tactic(auto)]
 
-ghost use Rattle.std.specs.Prelude.{◌≡◌, ◌+◌, ◌≤◌, IfOk, Some, None};
+ghost use Rattle.std.specs.Prelude.{◌≡◌, ◌+◌, ◌≤◌, take, IfOk, Some, None};
 ghost use Rattle.read.specs.Reader.{past, allowed, room, put, discarded};
 ghost use Rattle.format.specs.declared.refusal.ReadError.TheVariants.{End};
 ghost use Rattle.bunser.specs.Outcome.{asked, placed_result, Tells, TellsAt, BodyRead};
@@ -122,6 +122,13 @@ impl<R: DeRead> Bunser<R> {
         ensures { BodyRead R.DeRead.view self.old self.new (λ end v w. w ≡ discarded R.DeRead.lends v) }
     {
         self.read.discard();
+    }
+
+    /// The bytes to come that the reader has at hand, of which none is taken.
+    pub fn ahead(&self) -> &[u8]
+        ensures { result.now ≡ take (R.DeRead.reach self.now.read) (R.DeRead.view self.now.read).coming }
+    {
+        self.read.ahead()
     }
 
     // The request and the room are two things, as in `next_bytes`.

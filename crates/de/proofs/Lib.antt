@@ -7,3 +7,4 @@ pub mod Passing
 pub mod Skipping
 pub mod Rows
 pub mod RowPass
+pub mod AtHand

@@ -38,7 +38,7 @@ kind_fills tag.Skip s = refl
 -- ---- a cell that comes next
 
 module _ (lends : Bool) (b : Body) (calm : b.unread ≡ None) (due_it : due b.opens ≡ Cell) where
-  cell_comes : coming lends b ≡ item_comes lends true b
+  pub cell_comes : coming lends b ≡ item_comes lends true b
   unfolding coming
   cell_comes = ap (λ u. unread_comes u lends b) calm ∙ ap (λ d. due_comes d lends b) due_it
 

@@ -1,4 +1,5 @@
 pub mod Steps
+pub mod AtHand
 pub mod Calls
 pub mod Shown
 pub mod Made

@@ -2,6 +2,7 @@
 #![tactic(auto)]
 
 mod array;
+mod at_hand;
 mod calls;
 mod coming;
 pub mod decoder;

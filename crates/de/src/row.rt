@@ -5,9 +5,10 @@ ghost use Rattle.room.specs.declared.due.Due.TheVariants.{Cell};
 ghost use Rattle.de.specs.declared.event.Event.TheVariants.{Int};
 ghost use Rattle.de.specs.declared.event.Ahead.TheVariants.{Passed, Text};
 ghost use Rattle.de.specs.Steps.{int_comes, text_comes, found, Finds};
-ghost use Rattle.de.specs.Rows.{staged, counted_by, at_cell, RowTold, Untouched, taken_up, PlainTold, BytesTold, CellTold};
+ghost use Rattle.de.specs.Rows.{staged, counted_by, at_cell, RowTold, Untouched, taken_up, PlainTold, BytesTold, CellTold, Within};
 ghost use Rattle.de.specs.Held.{body_of};
 
+use super::at_hand::plain_cells;
 use super::coming::kind_of;
 use super::event::{Event, Plain, RowPass};
 use super::events::Events;
@@ -99,6 +100,20 @@ impl<R: DeRead> Events<R> {
         }
     }
 
+    // Takes the plain cells that are at hand, in one read, and tells how many. Where that is refused nothing has changed.
+    fn pass_at_hand(&mut self, columns: usize) -> usize
+        requires calm { (body_of R.DeRead.view self.old).unread ≡ None }
+        requires begins { row_columns (body_of R.DeRead.view self.old).opens ≡ Some columns }
+        requires few { columns ≤ 256 }
+        ensures { Within R.DeRead.lends (body_of R.DeRead.view self.old) columns result (body_of R.DeRead.view self.new) }
+    {
+        let (cells, size) = plain_cells(self.bunser.ahead(), columns);
+        match self.bunser.read_bytes(size, &mut []) {
+            Ok(_) => cells,
+            Err(_) => 0,
+        }
+    }
+
     // So many events pass, of which none is a text.
     fn count(&mut self, events: usize)
         ensures { body_of R.DeRead.view self.new ≡ staged (body_of R.DeRead.view self.old) (body_of R.DeRead.view self.old).opens (counted_by events (body_of R.DeRead.view self.old).events) }
@@ -126,7 +141,7 @@ impl<R: DeRead> Events<R> {
         requires few { columns ≤ 256 }
         ensures { RowTold R.DeRead.lends (body_of R.DeRead.view self.old) result (body_of R.DeRead.view self.new) }
     {
-        let mut cells = 0usize;
+        let mut cells = self.pass_at_hand(columns);
         while cells < columns {
             match self.pass_cell() {
                 Ok(true) => cells += 1,

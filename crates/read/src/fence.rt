@@ -41,6 +41,8 @@ impl<R: DeRead> DeRead for Fence<R> {
 
     ghost lends = { R.DeRead.lends };
 
+    ghost reach = { λ s. R.DeRead.reach s.below };
+
     ghost sound = { λ s. fence_sound R.DeRead.lends s.stop (R.DeRead.view s.below) (R.DeRead.sound s.below) };
 
     fn peek(&mut self) -> Result<u8, Fault> {
@@ -54,6 +56,10 @@ impl<R: DeRead> DeRead for Fence<R> {
 
     fn discard(&mut self) {
         self.below.discard();
+    }
+
+    fn ahead(&self) -> &[u8] {
+        self.below.ahead()
     }
 
     fn next_bytes(&mut self, n: usize, buf: &mut [u8]) -> Result<Taken, Fault> {

@@ -65,6 +65,8 @@ impl<S: Source> DeRead for IoRead<S> {
 
     ghost lends = { false };
 
+    ghost reach = { λ s. 0 };
+
     ghost sound = { λ s. io_sound (S.Source.feed s.source) s.peeked s.read_count (S.Source.sound s.source) s.octet s.before };
 
     fn peek(&mut self) -> Result<u8, Fault> {
@@ -85,6 +87,11 @@ impl<S: Source> DeRead for IoRead<S> {
         if self.peeked.take().is_some() {
             self.read_count += 1; // a byte counts once it is taken
         }
+    }
+
+    // What the source gives next is not known before it is asked.
+    fn ahead(&self) -> &[u8] {
+        &[]
     }
 
     fn next_bytes(&mut self, n: usize, buf: &mut [u8]) -> Result<Taken, Fault> {

@@ -1,7 +1,7 @@
 //! Readers: bytes that are taken one by one or several at once, and counted.
 #![tactic(auto)]
 
-ghost use Rattle.std.specs.Prelude.{◌≡◌, ◌+◌, Bool, Some, None, MatchOption};
+ghost use Rattle.std.specs.Prelude.{◌≡◌, ℕ, ◌+◌, Bool, take, Some, None, MatchOption};
 ghost use Rattle.read.specs.Assured.{EveryReader};
 ghost use Rattle.read.specs.Reader.{View, Sound, past, fault_of, Peek, Next, discarded, NextBytes, kept_at, part_of, lent_part, allowed};
 
@@ -79,6 +79,10 @@ pub trait DeRead {
     /// Whether this kind of reader lends what it takes or copies it.
     ghost lends: { Bool };
 
+    // A number of the reader and no part of its meaning: nothing that is read depends on it.
+    /// How many of the bytes to come the reader has at hand.
+    ghost reach: { Self → ℕ };
+
     ghost sound: { (s : Self) → Sound lends (view s) };
 
     /// Takes the next byte, the peeked one where there is one.
@@ -101,6 +105,10 @@ pub trait DeRead {
     /// Takes the peeked byte, and nothing where none is peeked.
     fn discard(&mut self)
         ensures { view self.new ≡ discarded lends (view self.old) };
+
+    /// The bytes to come that are at hand, of which none is taken.
+    fn ahead(&self) -> &[u8]
+        ensures { result.now ≡ take (reach self.now) (view self.now).coming };
 
     // The request and the room for it are two things: a refusal is about their difference.
     /// Takes n bytes, the peeked one first.

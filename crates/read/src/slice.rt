@@ -62,6 +62,8 @@ impl<'a> DeRead for SliceRead<'a> {
 
     ghost lends = { true };
 
+    ghost reach = { λ s. length (slice_view s).coming };
+
     ghost sound = { slice_sound };
 
     fn peek(&mut self) -> Result<u8, Fault> {
@@ -78,6 +80,10 @@ impl<'a> DeRead for SliceRead<'a> {
         if self.peeked {
             self.advance(1);
         }
+    }
+
+    fn ahead(&self) -> &[u8] {
+        self.coming()
     }
 
     fn next_bytes(&mut self, n: usize, buf: &mut [u8]) -> Result<Taken, Fault> {

@@ -15,7 +15,8 @@ use Rattle.bunser.specs.Reads.{peek_read, array_read, int_width, behind_tag, tag
 use Rattle.runs.specs.Law.{from, HeaderAt}
 use Rattle.runs.proofs.Stepped.{Took}
 use Rattle.runs.proofs.Took.{took_more, octets_on, Gotten}
-use Rattle.runs.proofs.Reading.{Comes, Failed, Halted, halted_behind, then_comes, placed_comes, cond_comes, asked_none, answer_comes, whole_comes}
+use Rattle.bunser.proofs.Granting.{asked_none}
+use Rattle.runs.proofs.Reading.{Comes, Failed, Halted, halted_behind, then_comes, placed_comes, cond_comes, answer_comes, whole_comes}
 use Rattle.runs.proofs.NumberReads.{CountRead, placed_count_reads}
 use Rattle.runs.proofs.Standing.{Stands, Gives, stands_front, stands_back, then_gives, placed_gives, taking, front_of, placed_count_gives}
 

@@ -25,7 +25,8 @@ use Rattle.runs.proofs.Taking.{named, all_named, Lies, AllLie, key_names}
 use Rattle.runs.proofs.Stepped.{Solid}
 use Rattle.runs.proofs.Digits.{octets_are_bytes}
 use Rattle.runs.proofs.Took.{Gotten, gotten_none, gotten_more, gotten_as, gotten_on}
-use Rattle.runs.proofs.Reading.{Comes, Halted, halted_before, halted_behind, then_comes, cond_comes, asked_none, Peeked, placed_peek_reads}
+use Rattle.bunser.proofs.Granting.{asked_none}
+use Rattle.runs.proofs.Reading.{Comes, Halted, halted_before, halted_behind, then_comes, cond_comes, Peeked, placed_peek_reads}
 use Rattle.runs.proofs.NumberReads.{CountRead, placed_count_reads, KeyLengthRead, key_length_reads}
 use Rattle.runs.proofs.TextReads.{TextRead, TextRefused, text_reads}
 

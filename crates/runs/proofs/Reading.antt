@@ -1,10 +1,9 @@
 -- What a read comes to: what it has taken where it gives, and what it leaves where it is refused.
 use Rattle.std.proofs.Common.{◌≡◌, ℕ, ◌+◌, ◌≤◌, Bool, true, false, cond, ltb, List, [], ◌∷◌, length, take, get_or, Some, None, Option, sym, refl, ap, subst, arith}
-use Rattle.std.proofs.lemmas.Bool.{ltb-false}
 use Rattle.std.proofs.lemmas.List.{take-append-drop, length-take-le}
 use Rattle.source.specs.declared.fault.SourceFault.{SourceFault}
 use Rattle.read.specs.declared.Fault.TheVariants as fault
-use Rattle.read.specs.Reader.{View, past, cramped, held, advanced, discarded, shortfall}
+use Rattle.read.specs.Reader.{View, past, held, advanced, discarded, shortfall}
 use Rattle.format.specs.Numbers.{latching, read_latching}
 use Rattle.format.specs.declared.refusal.ReadError.{ReadError}
 use Rattle.format.specs.declared.refusal.ReadError.TheVariants.{End, Stop, Short, Source}
@@ -12,6 +11,7 @@ use Rattle.format.specs.declared.refusal.Refusal.{Refusal}
 use Rattle.format.specs.declared.refusal.Cause.{Cause}
 use Rattle.bunser.specs.Outcome.{Outcome, got, bad, and_then, placed, judged, asked, answer}
 use Rattle.bunser.specs.Reads.{peek_read}
+use Rattle.bunser.proofs.Granting.{some_none, Granted, asked_none}
 use Rattle.runs.proofs.Took.{took_none, Gotten, gotten_as}
 
 -- ---- what a read comes to
@@ -66,27 +66,6 @@ cond_comes gave left true m n h k = h refl
 cond_comes gave left false m n h k = k refl
 
 -- ---- one request
-
--- a request that was granted
-pub record Granted (end : Option ℕ) (v : View) (space : Option ℕ) (n : ℕ) : Type 0 where
-  pub before_end : past end (v.count + n) ≡ false
-  pub before_stop : past v.stop (v.count + n) ≡ false
-  pub roomy : cramped space n ≡ false
-  pub there : n ≤ length v.coming
-
-some_none : {A : Type 0} {a : A} {P : Type 0} → ◌≡◌ {A = Option A} (Some a) None → P
-some_none e = let z : ◌≡◌ {A = ℕ} 0 1 = cc in absurd (omega arith)
-
-pub asked_none : (end : Option ℕ) (v : View) (space : Option ℕ) (n : ℕ) → asked end v space n ≡ None → Granted end v space n
-asked_none end v space n h = go (past end (v.count + n)) (past v.stop (v.count + n)) (cramped space n) (ltb (length v.coming) n) refl refl refl refl h
-  where
-    go : (a b c d : Bool) → past end (v.count + n) ≡ a → past v.stop (v.count + n) ≡ b → cramped space n ≡ c → ltb (length v.coming) n ≡ d →
-        judged a (cond b (Some fault.Stop) (cond c (Some fault.Room) (cond d (Some (shortfall v.ending)) None))) ≡ None → Granted end v space n
-    go true b c d p s q r h = some_none h
-    go false true c d p s q r h = some_none h
-    go false false true d p s q r h = some_none h
-    go false false false true p s q r h = some_none h
-    go false false false false p s q r h = record { before_end = p; before_stop = s; roomy = q; there = ltb-false (length v.coming) n r }
 
 -- without a buffer no request is refused for want of room
 pub asked_some : (end : Option ℕ) (v : View) (n : ℕ) (e : ReadError) → asked end v None n ≡ Some e → read_latching e ≡ true

@@ -14,7 +14,8 @@ use Rattle.bunser.specs.Outcome.{Outcome, got, bad, asked}
 use Rattle.bunser.specs.Reads.{bytes_read}
 use Rattle.bunser.specs.Texts.{textual, text_read}
 use Rattle.runs.proofs.Took.{Gotten}
-use Rattle.runs.proofs.Reading.{asked_some, Comes, then_comes, asked_none, answer_comes, gotten_advanced}
+use Rattle.bunser.proofs.Granting.{asked_none}
+use Rattle.runs.proofs.Reading.{asked_some, Comes, then_comes, answer_comes, gotten_advanced}
 
 -- what has to be UTF-8 is
 abbrev pub Textual : TextKind → List ℕ → Type 0
