@@ -8,6 +8,7 @@ use Rattle.format.specs.declared.refusal.Cause.{Cause}
 use Rattle.format.specs.declared.refusal.Cause.TheVariants.{OutOfTurn, Token, Read, Depth, KeyRoom, NoKeys, Unfinished, Length}
 use Rattle.format.specs.declared.refusal.Refusal.{Refusal}
 use Rattle.format.specs.Faults.{error_of}
+use Rattle.format.specs.Numbers.{number_of}
 use Rattle.bunser.specs.declared.Bunser.{Bunser}
 
 -- something read and the reader then, or a refusal and the reader then
@@ -73,6 +74,10 @@ CauseLeaves (Length expected count) v w = w ≡ v
 
 abbrev pub RefusalLeaves : Refusal → View → View → Type 0
 RefusalLeaves f v w = CauseLeaves f.cause v w
+
+-- every refusal but 3 and 4 leaves the reader as it was
+abbrev pub LeavesAsItWas : Type 0
+LeavesAsItWas = (f : Refusal) (v w : View) → RefusalLeaves f v w → (number_of f.cause ≡ 3 → ⊥) → (number_of f.cause ≡ 4 → ⊥) → w ≡ v
 
 -- the result of a call and the reader after it are what this read comes to
 abbrev pub TellsBy : {E A : Type 0} → (E → View → View → Type 0) → Outcome E A → Result A E → View → Type 0

@@ -1,10 +1,10 @@
 //! Numbers, texts and the header of a PDU, over any reader.
 #![tactic(auto)]
 
-ghost use Rattle.std.specs.Prelude.{◌≡◌, ◌+◌, ◌≤◌, take, IfOk, Some, None};
-ghost use Rattle.read.specs.Reader.{past, allowed, room, put, discarded};
+ghost use Rattle.std.specs.Prelude.{◌≡◌, ◌+◌, ◌≤◌, false, cond, take, IfOk, Some, None};
+ghost use Rattle.read.specs.Reader.{past, allowed, room, put, advanced, discarded, passable};
 ghost use Rattle.format.specs.declared.refusal.ReadError.TheVariants.{End};
-ghost use Rattle.bunser.specs.Outcome.{asked, placed_result, Tells, TellsAt, BodyRead};
+ghost use Rattle.bunser.specs.Outcome.{asked, placed_result, LeavesAsItWas, Tells, TellsAt, BodyRead};
 ghost use Rattle.bunser.specs.Reads.{peek_read, bytes_read, fronts, lent_or, array_read, int_read, real_read, int_width, tagged_int_read, count_of, count_read, magical, magic_read, flags_read, capabilities_read, length_read, header_read, end_of};
 
 use crate::end::BodyEnd;
@@ -74,6 +74,11 @@ pub fn placed<T>(read: Result<T, ReadError>, place: usize) -> Result<T, Refusal>
     read.map_err(|error| error.at(place))
 }
 
+/// Every refusal but 3 and 4 leaves the reader as it was.
+pub fn refusals_leave_the_reader()
+    ensures { LeavesAsItWas }
+{}
+
 impl<R: DeRead> Bunser<R> {
     pub fn new(read: R) -> Bunser<R>
         ensures { (result.read ≡ read) × (result.end ≡ None) }
@@ -129,6 +134,14 @@ impl<R: DeRead> Bunser<R> {
         ensures { result.now ≡ take (R.DeRead.reach self.now.read) (R.DeRead.view self.now.read).coming }
     {
         self.read.ahead()
+    }
+
+    /// Takes n bytes that are at hand and gives none of them. Where fewer are, or an end or a stop lies before, it takes none.
+    pub fn pass(&mut self, n: usize) -> bool
+        ensures tells { result ≡ cond (past self.old.end ((R.DeRead.view self.old.read).count + n)) false (passable (R.DeRead.reach self.old.read) (R.DeRead.view self.old.read) n) }
+        ensures takes { BodyRead R.DeRead.view self.old self.new (λ end v w. w ≡ cond result (advanced R.DeRead.lends n v) v) }
+    {
+        self.allow(n).is_ok() && self.read.pass(n)
     }
 
     // The request and the room are two things, as in `next_bytes`.

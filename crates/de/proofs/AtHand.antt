@@ -1,36 +1,34 @@
 -- Plain cells that are at hand pass over as they would event by event.
-use Rattle.std.proofs.Common.{◌≡◌, ℕ, suc, ◌+◌, ◌-◌, ◌*◌, ◌<◌, ◌≤◌, Bool, true, false, cond, eqb, ltb, List, [], ◌∷◌, ◌++◌, length, take, drop, slice_index, pos, negsuc, Some, None, Ok, Err, Option, Result, sym, refl, ap, ap₂, ◌∙◌, subst, add-zero, arith, take-append-drop, length-append}
+use Rattle.std.proofs.Common.{◌≡◌, ℕ, suc, ◌+◌, ◌-◌, ◌*◌, ◌<◌, ◌≤◌, Bool, true, false, cond, eqb, ltb, List, [], ◌∷◌, ◌++◌, length, take, drop, slice_index, pos, negsuc, Some, None, Ok, Option, Result, nat_le, sym, refl, ap, ap₂, ◌∙◌, subst, add-zero, arith, take-append-drop, length-append}
 use Rattle.std.proofs.lemmas.Bool.{eqb-true, ltb-true, ltb-false, lt-ltb}
 use Rattle.std.proofs.lemmas.List.{drop-append-le, take-append-le}
-use Rattle.read.specs.declared.Taken.{Taken}
-use Rattle.read.specs.Reader.{View, advanced, lies}
+use Rattle.read.specs.Reader.{View, advanced, lies, passable}
+use Rattle.read.specs.Reader.{past as is_past}
 use Rattle.read.specs.Reader.{held as held_of}
 use Rattle.format.specs.Integers.{bytes_of, little_endian, twos_complement}
 use Rattle.format.specs.declared.width.Width.{Width}
 use Rattle.format.specs.declared.width.Width.TheVariants.{W8, W16, W32, W64}
 use Rattle.format.specs.declared.tags.Tag.{Tag}
 use Rattle.format.specs.declared.tags.NoTag.{NoTag}
-use Rattle.format.specs.declared.refusal.ReadError.{ReadError}
 use Rattle.utf8.specs.Utf8.{utf8}
 use Rattle.bunser.specs.declared.text.TextKind.{TextKind}
 use Rattle.bunser.specs.declared.text.TextKind.TheVariants as text
 use Rattle.bunser.specs.declared.text.Unread.{Unread}
-use Rattle.bunser.specs.Outcome.{got, and_then, placed, asked, answer, Tells}
-use Rattle.bunser.specs.Reads.{peek_read, bytes_read, int_read, int_width, behind_tag, tagged_int_read, count_of, told_as, count_read}
+use Rattle.bunser.specs.Outcome.{got, and_then, placed, answer}
+use Rattle.bunser.specs.Reads.{peek_read, int_read, int_width, behind_tag, tagged_int_read, count_of, told_as, count_read}
 use Rattle.bunser.specs.Texts.{placed_count, textual, text_read}
-use Rattle.bunser.proofs.Asking.{given}
-use Rattle.bunser.proofs.Granting.{some_none, Granted, asked_none, unmoved, none_asked, granted_less, granted_on, advanced_none, advanced_more}
-use Rattle.room.specs.Open.{Column, Open, due, filled, row_columns, row_turned, within_row}
+use Rattle.bunser.proofs.Granting.{some_none, Granted, none_asked, granted_less, granted_on, advanced_none, advanced_more}
+use Rattle.room.specs.Open.{Column, Open, due, filled, row_columns, row_turned, within_row, past_row}
 use Rattle.room.specs.declared.due.Due.TheVariants.{Cell}
 use Rattle.de.specs.declared.event.Event.{Event}
 use Rattle.de.specs.declared.event.Event.TheVariants as event
 use Rattle.de.specs.declared.event.Ahead.TheVariants as ahead
 use Rattle.de.specs.Steps.{Body, moved, behind, awaiting, comes, passes, awaits, reading, int_comes, real_comes, text_comes, tag_comes, tagged, item_comes, coming, finishing, text_step, text_by, behind_text, text_front, text_puts, text_space, text_outcome, step}
-use Rattle.de.specs.Calls.{PassesOver}
-use Rattle.de.specs.Rows.{staged, counted_by, Within}
+use Rattle.de.specs.Calls.{PassesOver, Skip}
+use Rattle.de.specs.Rows.{staged, counted_by}
 use Rattle.de.specs.AtHand.{short_len, size_behind, size_of_utf8, size_if_utf8, utf8_size, size_by, plain_size, PlainCells, none, more}
 use Rattle.de.proofs.Rows.{cell_comes}
-use Rattle.de.proofs.RowPass.{row_begins, due_it, one_more}
+use Rattle.de.proofs.RowPass.{Within, row_begins, due_it, one_more, row_ends}
 
 none_some : {A P : Type 0} {a : A} → ◌≡◌ {A = Option A} None (Some a) → P
 none_some e = some_none (sym e)
@@ -239,23 +237,20 @@ module _ (lends : Bool) (b : Body) (n : ℕ) (calm : b.unread ≡ None) (columns
       (plain_passes lends (staged (past l) o j) calm (due_it lends b n calm columns few m (past l) w (omega (arith, le))) (drop l xs) ys c rest e (granted_on lends l c g)))
 
   -- what is at hand is what comes first
-  module _ (xs : List ℕ) (reach : ℕ) (at_hand : xs ≡ take reach b.reader.coming) (k s : ℕ) (plain : PlainCells xs k s) (space : Option ℕ) where
+  module _ (xs : List ℕ) (reach : ℕ) (at_hand : xs ≡ take reach b.reader.coming) (k s : ℕ) (plain : PlainCells xs k s) where
     front : b.reader.coming ≡ xs ++ drop reach b.reader.coming
     front = sym (take-append-drop reach b.reader.coming) ∙ ap (λ l. l ++ drop reach b.reader.coming) (sym at_hand)
 
     there : s ≤ length b.reader.coming
     there = let far = long_plain plain in let long = ap length front ∙ length-append xs (drop reach b.reader.coming) in omega (arith, far, long)
 
-    -- the read of all of them was granted
-    pub taken_pass : (t : Taken) (c : Body) → k ≤ n → Tells (bytes_read lends b.end space s b.reader) (Ok t) c.reader → c ≡ moved b c.reader → Within lends b n k c
-    taken_pass t c le told is =
-        let g = given (asked b.end b.reader space s) b.reader (lies lends b.reader) (advanced lends s b.reader) t c.reader told in
-        let a = asked_none b.end b.reader space s g.granted_it in
-        subst (Within lends b n k) (sym (is ∙ ap (moved b) g.left))
-        (cells_pass xs (drop reach b.reader.coming) k s front (record { before_end = a.before_end; before_stop = a.before_stop; roomy = refl; there = a.there }) plain le)
-
-    -- or it was refused, and none has passed
-    pub none_pass : (e : ReadError) (c : Body) → Tells (bytes_read lends b.end space s b.reader) (Err e) c.reader → c ≡ moved b c.reader → Within lends b n 0 c
-    none_pass e c told is =
-        subst (Within lends b n 0) (sym (is ∙ ap (moved b) (unmoved b.end b.reader space s (lies lends b.reader) (advanced lends s b.reader) e c.reader there told)))
-        (row_begins lends b n calm columns few)
+    -- all of them were taken
+    pub taken_pass : (c : Body) → k ≡ n → cond (is_past b.end (b.reader.count + s)) false (passable reach b.reader s) ≡ true → c ≡ moved b (advanced lends s b.reader) → Skip lends b (Ok (2 + 2 * n)) (staged c (past_row c.opens) (counted_by (2 + 2 * n) c.events))
+    taken_pass c all ok is = go (is_past b.end (b.reader.count + s)) (is_past b.reader.stop (b.reader.count + s)) refl refl ok
+      where
+        go : (p q : Bool) → is_past b.end (b.reader.count + s) ≡ p → is_past b.reader.stop (b.reader.count + s) ≡ q → cond p false (cond q false (nat_le s (length (take reach b.reader.coming)))) ≡ true → Skip lends b (Ok (2 + 2 * n)) (staged c (past_row c.opens) (counted_by (2 + 2 * n) c.events))
+        go true q e f h = absurd (cc)
+        go false true e f h = absurd (cc)
+        go false false e f h =
+            let g : Granted b.end b.reader None s = record { before_end = e; before_stop = f; roomy = refl; there = there } in
+            row_ends lends b n calm columns few k c (subst (Within lends b n k) (sym is) (cells_pass xs (drop reach b.reader.coming) k s front g plain (omega (arith, all)))) (omega (arith, all))

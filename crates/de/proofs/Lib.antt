@@ -7,4 +7,5 @@ pub mod Passing
 pub mod Skipping
 pub mod Rows
 pub mod RowPass
+pub mod Sizes
 pub mod AtHand

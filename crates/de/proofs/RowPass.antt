@@ -10,7 +10,7 @@ use Rattle.de.specs.declared.event.Ahead.TheVariants as ahead
 use Rattle.de.specs.declared.event.Event.TheVariants.{MapBegin, MapEnd}
 use Rattle.de.specs.Steps.{Body, behind, counted, unread_comes, due_comes, coming, step}
 use Rattle.de.specs.Calls.{PassesOver, Skips, Skip, over, stuck, last, onward}
-use Rattle.de.specs.Rows.{staged, Untouched, counted_by, at_cell, CellTold, before_key, Within}
+use Rattle.de.specs.Rows.{staged, Untouched, counted_by, at_cell, CellTold}
 use Rattle.de.proofs.Passing.{step_from, column_passes_over}
 use Rattle.de.proofs.Skipping.{skip_stuck, skip_last, skip_onward}
 
@@ -80,6 +80,16 @@ skips_same e (last q l x y) = last (e ∙ q) l x y
 skips_same e (onward q l m h) = onward (e ∙ q) l m h
 
 -- ---- so many cells have passed
+
+-- before the key behind them
+abbrev pub before_key : ℕ → Body → View → Body
+before_key k b v = record { reader = v; end = b.end; opens = within_row k b.opens; unread = None; events = counted_by (1 + 2 * k) b.events }
+
+pub record Within (lends : Bool) (b : Body) (n k : ℕ) (c : Body) : Type 0 where
+  pub fits : k ≤ n
+  pub same : Untouched b c
+  pub calm : c.unread ≡ None
+  pub rest : (r : Result ℕ Refusal) (t : Body) → Skips lends (nesting b.opens) (1 + 2 * k) (before_key k b c.reader) r t → Skip lends b r t
 
 module _ (lends : Bool) (b : Body) (n : ℕ) (calm : b.unread ≡ None) (columns : row_columns b.opens ≡ Some n) (few : n ≤ 256) where
   at_row : Ahead b.opens n

@@ -29,19 +29,38 @@ size_if_utf8 None xs = None
 abbrev pub utf8_size : List ℕ → Option ℕ
 utf8_size xs = size_if_utf8 (short_len xs) xs
 
+-- how many bytes a cell has whose tag alone says so, and else 0
+abbrev pub fixed_size : Result Tag NoTag → ℕ
+fixed_size (Ok (tag.Int w)) = 1 + bytes_of w
+fixed_size (Ok tag.Real) = 9
+fixed_size (Ok tag.True) = 1
+fixed_size (Ok tag.False) = 1
+fixed_size (Ok tag.Null) = 1
+fixed_size (Ok tag.Skip) = 1
+fixed_size (Ok tag.ByteString) = 0
+fixed_size (Ok tag.Utf8String) = 0
+fixed_size (Ok tag.Array) = 0
+fixed_size (Ok tag.Object) = 0
+fixed_size (Ok tag.Template) = 0
+fixed_size (Err e) = 0
+
+-- how many bytes the text has that begins here
+abbrev pub text_size : Result Tag NoTag → List ℕ → Option ℕ
+text_size (Ok tag.ByteString) xs = size_behind (short_len xs)
+text_size (Ok tag.Utf8String) xs = utf8_size xs
+text_size (Ok (tag.Int w)) xs = None
+text_size (Ok tag.Real) xs = None
+text_size (Ok tag.True) xs = None
+text_size (Ok tag.False) xs = None
+text_size (Ok tag.Null) xs = None
+text_size (Ok tag.Skip) xs = None
+text_size (Ok tag.Array) xs = None
+text_size (Ok tag.Object) xs = None
+text_size (Ok tag.Template) xs = None
+text_size (Err e) xs = None
+
 abbrev pub size_by : Result Tag NoTag → List ℕ → Option ℕ
-size_by (Ok (tag.Int w)) xs = Some (1 + bytes_of w)
-size_by (Ok tag.ByteString) xs = size_behind (short_len xs)
-size_by (Ok tag.Utf8String) xs = utf8_size xs
-size_by (Ok tag.Real) xs = Some 9
-size_by (Ok tag.True) xs = Some 1
-size_by (Ok tag.False) xs = Some 1
-size_by (Ok tag.Null) xs = Some 1
-size_by (Ok tag.Skip) xs = Some 1
-size_by (Ok tag.Array) xs = None
-size_by (Ok tag.Object) xs = None
-size_by (Ok tag.Template) xs = None
-size_by (Err e) xs = None
+size_by r xs = cond (fixed_size r == 0) (text_size r xs) (Some (fixed_size r))
 
 -- how many bytes the cell has that begins here, where it is a plain one
 abbrev pub plain_size : List ℕ → Option ℕ

@@ -1,6 +1,5 @@
 -- How the cells of a row pass over, whatever is open meanwhile.
-use Rattle.std.specs.Prelude.{◌≡◌, ℕ, ◌+◌, ◌*◌, ◌≤◌, min, Bool, true, false, List, None, Ok, Err, Result}
-use Rattle.read.specs.Reader.{View}
+use Rattle.std.specs.Prelude.{◌≡◌, ℕ, ◌+◌, ◌*◌, min, Bool, true, false, List, Some, None, Ok, Err, Option, Result}
 use Rattle.format.specs.declared.refusal.Refusal.{Refusal}
 use Rattle.bunser.specs.declared.text.Unread.{Unread}
 use Rattle.room.specs.Open.{Column, Open, filled, row_turned, within_row, nesting}
@@ -63,13 +62,7 @@ RowTold lends b (Ok (Whole n)) c = Skip lends b (Ok n) c
 RowTold lends b (Ok (Part n)) c = (r : Result ℕ Refusal) (t : Body) → Skips lends (nesting b.opens) n c r t → Skip lends b r t
 RowTold lends b (Err f) c = Skip lends b (Err f) c
 
--- so many cells of the row have passed, and the key behind them has not
-abbrev pub before_key : ℕ → Body → View → Body
-before_key k b v = record { reader = v; end = b.end; opens = within_row k b.opens; unread = None; events = counted_by (1 + 2 * k) b.events }
-
--- so many cells of a row have been passed over, while what is held is still as before the row
-pub record Within (lends : Bool) (b : Body) (n k : ℕ) (c : Body) : Type 0 where
-  pub fits : k ≤ n
-  pub same : Untouched b c
-  pub calm : c.unread ≡ None
-  pub rest : (r : Result ℕ Refusal) (t : Body) → Skips lends (nesting b.opens) (1 + 2 * k) (before_key k b c.reader) r t → Skip lends b r t
+-- a row at hand that is passed over, or nothing has changed
+abbrev pub AtHandTold : Bool → Body → Option ℕ → Body → Type 0
+AtHandTold lends b (Some n) c = Skip lends b (Ok n) c
+AtHandTold lends b None c = c ≡ b

@@ -1,11 +1,24 @@
 //! Plain cells by their bytes alone, where the reader has these at hand.
 ghost use Rattle.std.specs.Prelude.{◌≡◌, ◌≤◌};
-ghost use Rattle.de.specs.AtHand.{short_len, utf8_size, plain_size, PlainCells};
+ghost use Rattle.format.specs.Tags.{tag_of};
+ghost use Rattle.de.specs.AtHand.{short_len, utf8_size, fixed_size, text_size, plain_size, PlainCells};
 
 use format::tags::Tag;
 use format::width::Width;
 use read::part_of;
 use utf8::is_utf8;
+
+// How many bytes a cell has, by its tag: 0 where none begins or the tag does not say.
+const FIXED: [u8; 256] = [
+    0, 0, 0, 2, 3, 5, 9, 9, 1, 1, 1, 0, 1, 0, 0, 0, 0, 0, 0, 0, 0, 0, 0, 0, 0, 0, 0, 0, 0, 0, 0, 0,
+    0, 0, 0, 0, 0, 0, 0, 0, 0, 0, 0, 0, 0, 0, 0, 0, 0, 0, 0, 0, 0, 0, 0, 0, 0, 0, 0, 0, 0, 0, 0, 0,
+    0, 0, 0, 0, 0, 0, 0, 0, 0, 0, 0, 0, 0, 0, 0, 0, 0, 0, 0, 0, 0, 0, 0, 0, 0, 0, 0, 0, 0, 0, 0, 0,
+    0, 0, 0, 0, 0, 0, 0, 0, 0, 0, 0, 0, 0, 0, 0, 0, 0, 0, 0, 0, 0, 0, 0, 0, 0, 0, 0, 0, 0, 0, 0, 0,
+    0, 0, 0, 0, 0, 0, 0, 0, 0, 0, 0, 0, 0, 0, 0, 0, 0, 0, 0, 0, 0, 0, 0, 0, 0, 0, 0, 0, 0, 0, 0, 0,
+    0, 0, 0, 0, 0, 0, 0, 0, 0, 0, 0, 0, 0, 0, 0, 0, 0, 0, 0, 0, 0, 0, 0, 0, 0, 0, 0, 0, 0, 0, 0, 0,
+    0, 0, 0, 0, 0, 0, 0, 0, 0, 0, 0, 0, 0, 0, 0, 0, 0, 0, 0, 0, 0, 0, 0, 0, 0, 0, 0, 0, 0, 0, 0, 0,
+    0, 0, 0, 0, 0, 0, 0, 0, 0, 0, 0, 0, 0, 0, 0, 0, 0, 0, 0, 0, 0, 0, 0, 0, 0, 0, 0, 0, 0, 0, 0, 0,
+];
 
 // A text's tag, and its length with a tag of its own.
 const SHORT_HEAD: usize = 3;
@@ -36,18 +49,33 @@ fn utf8_size(bytes: &[u8]) -> Option<usize>
     }
 }
 
+// How many bytes a cell has whose tag alone says so, and else 0.
+#[tactic(auto, using(crate::proofs::Sizes::size_at))]
+fn fixed_size(tag: u8) -> usize
+    ensures { result ≡ fixed_size (tag_of tag) }
+{
+    usize::from(FIXED[usize::from(tag)])
+}
+
+// How many bytes the text has that begins here, if one does whose length is written in one byte.
+fn text_size(tag: u8, bytes: &[u8]) -> Option<usize>
+    ensures { result ≡ text_size (tag_of tag) bytes.now }
+{
+    match Tag::try_from(tag) {
+        Ok(Tag::ByteString) => Some(SHORT_HEAD + short_len(bytes)?),
+        Ok(Tag::Utf8String) => utf8_size(bytes),
+        _ => None,
+    }
+}
+
 // How many bytes the cell has that begins here, if it is a plain one.
 fn plain_size(bytes: &[u8]) -> Option<usize>
     ensures { result ≡ plain_size bytes.now }
 {
     let tag = *bytes.first()?;
-    match Tag::try_from(tag) {
-        Ok(Tag::Int(width)) => Some(1 + width.bytes()),
-        Ok(Tag::ByteString) => Some(SHORT_HEAD + short_len(bytes)?),
-        Ok(Tag::Utf8String) => utf8_size(bytes),
-        Ok(Tag::Real) => Some(9),
-        Ok(Tag::True | Tag::False | Tag::Null | Tag::Skip) => Some(1),
-        Ok(Tag::Array | Tag::Object | Tag::Template) | Err(_) => None,
+    match fixed_size(tag) {
+        0 => text_size(tag, bytes),
+        size => Some(size),
     }
 }
 

@@ -5,7 +5,7 @@ ghost use Rattle.room.specs.declared.due.Due.TheVariants.{Cell};
 ghost use Rattle.de.specs.declared.event.Event.TheVariants.{Int};
 ghost use Rattle.de.specs.declared.event.Ahead.TheVariants.{Passed, Text};
 ghost use Rattle.de.specs.Steps.{int_comes, text_comes, found, Finds};
-ghost use Rattle.de.specs.Rows.{staged, counted_by, at_cell, RowTold, Untouched, taken_up, PlainTold, BytesTold, CellTold, Within};
+ghost use Rattle.de.specs.Rows.{staged, counted_by, at_cell, RowTold, Untouched, taken_up, PlainTold, BytesTold, CellTold, AtHandTold};
 ghost use Rattle.de.specs.Held.{body_of};
 
 use super::at_hand::plain_cells;
@@ -100,18 +100,22 @@ impl<R: DeRead> Events<R> {
         }
     }
 
-    // Takes the plain cells that are at hand, in one read, and tells how many. Where that is refused nothing has changed.
-    fn pass_at_hand(&mut self, columns: usize) -> usize
-        requires calm { (body_of R.DeRead.view self.old).unread ≡ None }
-        requires begins { row_columns (body_of R.DeRead.view self.old).opens ≡ Some columns }
-        requires few { columns ≤ 256 }
-        ensures { Within R.DeRead.lends (body_of R.DeRead.view self.old) columns result (body_of R.DeRead.view self.new) }
+    /// Passes the row over that begins next, if all of its cells are plain ones and at hand. Else nothing changes.
+    pub(crate) fn skip_at_hand(&mut self) -> Option<usize>
+        ensures { AtHandTold R.DeRead.lends (body_of R.DeRead.view self.old) result (body_of R.DeRead.view self.new) }
     {
-        let (cells, size) = plain_cells(self.bunser.ahead(), columns);
-        match self.bunser.read_bytes(size, &mut []) {
-            Ok(_) => cells,
-            Err(_) => 0,
+        if self.unread.is_some() {
+            return None;
         }
+        let columns = self.opens.row_columns()?;
+        let (cells, size) = plain_cells(self.bunser.ahead(), columns);
+        if cells < columns || !self.bunser.pass(size) {
+            return None;
+        }
+        let events = 2 + 2 * columns;
+        self.opens.pass_row();
+        self.count(events);
+        Some(events)
     }
 
     // So many events pass, of which none is a text.
@@ -141,7 +145,7 @@ impl<R: DeRead> Events<R> {
         requires few { columns ≤ 256 }
         ensures { RowTold R.DeRead.lends (body_of R.DeRead.view self.old) result (body_of R.DeRead.view self.new) }
     {
-        let mut cells = self.pass_at_hand(columns);
+        let mut cells = 0usize;
         while cells < columns {
             match self.pass_cell() {
                 Ok(true) => cells += 1,

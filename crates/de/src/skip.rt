@@ -53,6 +53,9 @@ impl<R: DeRead> Events<R> {
     pub(crate) fn skip(&mut self) -> Result<usize, Refusal>
         ensures { Skip R.DeRead.lends (body_of R.DeRead.view self.old) result (body_of R.DeRead.view self.new) }
     {
+        if let Some(events) = self.skip_at_hand() {
+            return Ok(events);
+        }
         let down = self.opens.nesting();
         let mut passed = 0usize;
         if self.unread.is_none()

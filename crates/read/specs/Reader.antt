@@ -1,5 +1,5 @@
 -- What a reader means, and what each of its calls does to that meaning.
-use Rattle.std.specs.Prelude.{◌≡◌, ℕ, ◌+◌, ◌≤◌, min, Bool, true, false, cond, List, [], ◌∷◌, ◌++◌, length, take, drop, replicate, Some, None, Ok, Err, Option, Result, ◌==◌, nat_lt, slice_index}
+use Rattle.std.specs.Prelude.{◌≡◌, ℕ, ◌+◌, ◌≤◌, min, Bool, true, false, cond, List, [], ◌∷◌, ◌++◌, length, take, drop, replicate, Some, None, Ok, Err, Option, Result, ◌==◌, nat_lt, nat_le, slice_index}
 use Rattle.source.specs.Bytes.{Octets}
 use Rattle.source.specs.declared.fault.SourceFault.{SourceFault}
 use Rattle.source.specs.declared.fault.FillError.{FillError}
@@ -144,6 +144,13 @@ BytesBy None lends v n buf r w buf' = (r ≡ Ok (lies lends v)) × (w ≡ advanc
 
 abbrev pub NextBytes : Bool → View → ℕ → List ℕ → Result Taken Fault → View → List ℕ → Type 0
 NextBytes lends v n buf r w buf' = BytesBy (refusal v (room lends buf) n) lends v n buf r w buf'
+
+-- n bytes are passed over where they are at hand and before the stop, and else none
+abbrev pub passable : ℕ → View → ℕ → Bool
+passable reach v n = cond (past v.stop (v.count + n)) false (nat_le n (length (take reach v.coming)))
+
+abbrev pub PassedOver : ℕ → Bool → View → ℕ → Bool → View → Type 0
+PassedOver reach lends v n r w = (r ≡ passable reach v n) × (w ≡ cond r (advanced lends n v) v)
 
 -- the kept byte at a place
 abbrev pub kept_at : View → ℕ → Option ℕ

@@ -62,6 +62,10 @@ impl<R: DeRead> DeRead for Fence<R> {
         self.below.ahead()
     }
 
+    fn pass(&mut self, n: usize) -> bool {
+        self.allow(n).is_ok() && self.below.pass(n)
+    }
+
     fn next_bytes(&mut self, n: usize, buf: &mut [u8]) -> Result<Taken, Fault> {
         self.allow(n)?;
         self.below.next_bytes(n, buf)

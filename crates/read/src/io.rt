@@ -1,10 +1,10 @@
-ghost use Rattle.std.specs.Prelude.{◌≡◌, ◌+◌, ◌<◌, ◌≤◌, false, length, option_to_list, None};
+ghost use Rattle.std.specs.Prelude.{◌≡◌, ◌+◌, ◌<◌, ◌≤◌, false, cond, is_some, length, option_to_list, None};
 ghost use Rattle.source.specs.Bytes.{Octets};
 ghost use Rattle.read.specs.declared.io.TheConstants.{STOP};
 ghost use Rattle.read.specs.Held.{Fetch, FetchOne};
 ghost use Rattle.read.specs.Sound.{io_view, io_sound};
 
-use super::{DeRead, Fault, Taken, allow};
+use super::{DeRead, Fault, Taken, allow, passes};
 use source::{Source, read_exact};
 
 // 2^60 + 16: a body that ends by 2^60 and the header before it stay below.
@@ -65,7 +65,7 @@ impl<S: Source> DeRead for IoRead<S> {
 
     ghost lends = { false };
 
-    ghost reach = { λ s. 0 };
+    ghost reach = { λ s. cond (is_some s.peeked) 0 (S.Source.reach s.source) };
 
     ghost sound = { λ s. io_sound (S.Source.feed s.source) s.peeked s.read_count (S.Source.sound s.source) s.octet s.before };
 
@@ -89,9 +89,26 @@ impl<S: Source> DeRead for IoRead<S> {
         }
     }
 
-    // What the source gives next is not known before it is asked.
+    // Behind a byte that was peeked nothing is at hand: it stands by itself.
     fn ahead(&self) -> &[u8] {
-        &[]
+        match self.peeked {
+            Some(_) => &[],
+            None => self.source.ahead(),
+        }
+    }
+
+    fn pass(&mut self, n: usize) -> bool {
+        if passes(Some(STOP), self.read_count, n) {
+            return false;
+        }
+        let passed = match self.peeked {
+            Some(_) => n == 0,
+            None => self.source.pass(n),
+        };
+        if passed {
+            self.read_count += n;
+        }
+        passed
     }
 
     fn next_bytes(&mut self, n: usize, buf: &mut [u8]) -> Result<Taken, Fault> {

@@ -3,7 +3,7 @@
 
 ghost use Rattle.std.specs.Prelude.{◌≡◌, ℕ, ◌+◌, Bool, take, Some, None, MatchOption};
 ghost use Rattle.read.specs.Assured.{EveryReader};
-ghost use Rattle.read.specs.Reader.{View, Sound, past, fault_of, Peek, Next, discarded, NextBytes, kept_at, part_of, lent_part, allowed};
+ghost use Rattle.read.specs.Reader.{View, Sound, past, fault_of, Peek, Next, discarded, NextBytes, PassedOver, kept_at, part_of, lent_part, allowed};
 
 use source::{FillError, SourceFault};
 
@@ -109,6 +109,10 @@ pub trait DeRead {
     /// The bytes to come that are at hand, of which none is taken.
     fn ahead(&self) -> &[u8]
         ensures { result.now ≡ take (reach self.now) (view self.now).coming };
+
+    /// Takes n bytes that are at hand and gives none of them. Where fewer are, or the stop lies before, it takes none.
+    fn pass(&mut self, n: usize) -> bool
+        ensures { PassedOver (reach self.old) lends (view self.old) n result (view self.new) };
 
     // The request and the room for it are two things: a refusal is about their difference.
     /// Takes n bytes, the peeked one first.

@@ -86,6 +86,14 @@ impl<'a> DeRead for SliceRead<'a> {
         self.coming()
     }
 
+    fn pass(&mut self, n: usize) -> bool {
+        let there = n <= self.coming().len();
+        if there {
+            self.advance(n);
+        }
+        there
+    }
+
     fn next_bytes(&mut self, n: usize, buf: &mut [u8]) -> Result<Taken, Fault> {
         if n > self.coming().len() {
             return Err(Fault::Short);

@@ -124,10 +124,10 @@ impl Frame {
         ensures over { Over self.old self.new }
         ensures rows { in_row self.new ≡ in_row self.old }
     {
-        if let Frame::Rows(table, left) = *self
-            && left > 0
+        if let Frame::Rows(_, left) = self
+            && *left > 0
         {
-            *self = Frame::Rows(table, left - 1);
+            *left -= 1;
         }
     }
 

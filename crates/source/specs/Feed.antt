@@ -61,6 +61,10 @@ Read f buf r g buf' = ReadBy (length buf == 0) (length f.bytes == 0) f buf r g b
 abbrev pub portioned : ℕ → Feed → ℕ → Result ℕ SourceFault
 portioned most f room = cond (room == 0) (Ok 0) (cond (length f.bytes == 0) (told f.ending) (Ok (min most (min room (length f.bytes)))))
 
+-- so many bytes are passed over where they are at hand, and else none
+abbrev pub Passed : ℕ → Feed → ℕ → Bool → Feed → Type 0
+Passed reach f n r g = (r ≡ nat_le n (length (take reach f.bytes))) × (g ≡ cond r (after n f) f)
+
 -- how an ending is told that comes before a buffer is full
 abbrev pub unfilled : Option SourceFault → FillError
 unfilled None = End

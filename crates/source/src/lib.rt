@@ -1,9 +1,9 @@
 //! Sources: where bytes come from, some at a time, and how they end.
 #![tactic(auto)]
 
-ghost use Rattle.std.specs.Prelude.{◌≡◌, length};
+ghost use Rattle.std.specs.Prelude.{◌≡◌, ℕ, length, take};
 ghost use Rattle.source.specs.Examples.{SourceExamples};
-ghost use Rattle.source.specs.Feed.{Feed, Sound, Read, Fill};
+ghost use Rattle.source.specs.Feed.{Feed, Sound, Read, Passed, Fill};
 
 pub mod chain;
 pub mod fault;
@@ -18,11 +18,22 @@ pub trait Source {
 
     ghost sound: { (s : Self) → Sound (feed s) };
 
+    /// How many of the bytes to come are at hand.
+    ghost reach: { Self → ℕ };
+
     // 0 and no `Option` where nothing is given, as `std::io::Read` has it.
     /// Reads some bytes to the buffer's front and says how many: 0 into an empty buffer and at a
     /// clean end. A source that ends in a fault tells it each time.
     fn read(&mut self, buf: &mut [u8]) -> Result<usize, SourceFault>
         ensures { Read (feed self.old) buf.old result (feed self.new) buf.new };
+
+    /// The bytes to come that are at hand, of which none is taken.
+    fn ahead(&self) -> &[u8]
+        ensures { result.now ≡ take (reach self.now) (feed self.now).bytes };
+
+    /// Passes n bytes over that are at hand. Where fewer are, it passes none.
+    fn pass(&mut self, n: usize) -> bool
+        ensures { Passed (reach self.old) (feed self.old) n result (feed self.new) };
 }
 
 /// Fills the whole buffer, asking each time for all that is still wanted, or says how the source

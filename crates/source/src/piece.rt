@@ -31,6 +31,17 @@ impl<'a> Source for PieceSource<'a> {
 
     ghost sound = { λ s. record { octets = s.slice.octets; coded = s.coded } };
 
+    ghost reach = { λ s. max s.most 1 };
+
+    fn ahead(&self) -> &[u8] {
+        let all = self.slice.ahead();
+        all.get(..self.most.max(1)).unwrap_or(all)
+    }
+
+    fn pass(&mut self, n: usize) -> bool {
+        n <= self.most.max(1) && self.slice.pass(n)
+    }
+
     fn read(&mut self, buf: &mut [u8]) -> Result<usize, SourceFault>
         ensures reads { Read (giving self.old.slice.rest.now self.old.ending) buf.old result (giving self.new.slice.rest.now self.new.ending) buf.new }
         ensures few { result ≡ portioned (max self.old.most 1) (giving self.old.slice.rest.now self.old.ending) (length buf.old) }

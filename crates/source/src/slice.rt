@@ -25,6 +25,20 @@ impl<'a> Source for SliceSource<'a> {
 
     ghost sound = { λ s. record { octets = s.octets; coded = clean_coded } };
 
+    ghost reach = { λ s. length s.rest.now };
+
+    fn ahead(&self) -> &[u8] {
+        self.rest
+    }
+
+    fn pass(&mut self, n: usize) -> bool {
+        let Some(rest) = self.rest.get(n..) else {
+            return false;
+        };
+        self.rest = rest;
+        true
+    }
+
     fn read(&mut self, buf: &mut [u8]) -> Result<usize, SourceFault>
         ensures reads { Read (giving self.old.rest.now None) buf.old result (giving self.new.rest.now None) buf.new }
         ensures all { result ≡ portioned (length self.old.rest.now) (giving self.old.rest.now None) (length buf.old) }

@@ -1,4 +1,4 @@
-use Rattle.std.proofs.Common.{subst, Ok, arith}
+use Rattle.std.proofs.Common.{ap, subst, Ok, arith}
 use Rattle.room.specs.Open.{nesting}
 use Rattle.de.specs.Steps.{step}
 use Rattle.de.specs.Calls.{PassesOver}
@@ -19,8 +19,9 @@ returns-then-nesting-down g c =
     let d = body_of g.R.DeRead.view c.skip_one.new.self in
     let h = subst (λ k. PassesOver g.R.DeRead.lends (step g.R.DeRead.lends None b) (Ok k) d) c.if-branch.true c.in_ok-skip_one.ensures in
     let here = c.nesting.ensures in
+    let still = ap (λ b. nesting b.opens) c.in_default.ensures in
     let down = c.nesting-down.ensures in
-    c.loop-passed.invariant (Ok c.saturating_add-passed.result) d (skip_last g.R.DeRead.lends (nesting c.args.self.now.opens.opens) c.loop-passed.passed b d h (omega (arith, c.if-nesting-down.true)) c.saturating_add-passed.result c.saturating_add-passed.ensures)
+    c.loop-passed.invariant (Ok c.saturating_add-passed.result) d (skip_last g.R.DeRead.lends (nesting c.args.self.now.opens.opens) c.loop-passed.passed b d h (omega (arith, still, c.if-nesting-down.true)) c.saturating_add-passed.result c.saturating_add-passed.ensures)
 
 pub loop-passed-smaller : goal.loop-passed-smaller
 loop-passed-smaller g c =
@@ -35,8 +36,9 @@ loop-passed-preserved g c r t k =
     let d = body_of g.R.DeRead.view c.skip_one.new.self in
     let h = subst (λ k. PassesOver g.R.DeRead.lends (step g.R.DeRead.lends None b) (Ok k) d) c.if-branch.true c.in_ok-skip_one.ensures in
     let here = c.nesting.ensures in
+    let still = ap (λ b. nesting b.opens) c.in_default.ensures in
     let down = c.nesting-down.ensures in
-    c.loop-passed.invariant r t (skip_onward g.R.DeRead.lends (nesting c.args.self.now.opens.opens) c.loop-passed.passed b d h (omega (arith, c.if-nesting-down.false)) c.saturating_add-passed.result c.saturating_add-passed.ensures r t k)
+    c.loop-passed.invariant r t (skip_onward g.R.DeRead.lends (nesting c.args.self.now.opens.opens) c.loop-passed.passed b d h (omega (arith, still, c.if-nesting-down.false)) c.saturating_add-passed.result c.saturating_add-passed.ensures r t k)
 
 pub returns : goal.returns
 returns g c =

@@ -3,8 +3,11 @@ use Rattle.room.specs.Open.{row_turned, within_row, nesting}
 use Rattle.de.specs.Calls.{Skips, Skip}
 use Rattle.de.specs.Rows.{staged, counted_by, CellTold}
 use Rattle.de.specs.Held.{body_of}
-use Rattle.de.proofs.RowPass.{due_it, one_more, part, refused, row_ends}
+use Rattle.de.proofs.RowPass.{row_begins, due_it, one_more, part, refused, row_ends}
 use Rattle.de.proofs.events.Events.skip_row.Goals as goal
+
+pub loop-cells-init : goal.loop-cells-init
+loop-cells-init g c = let b = body_of g.R.DeRead.view c.args.self.now in row_begins g.R.DeRead.lends b c.args.columns c.requires.calm c.requires.begins c.requires.few
 
 pub loop-cells-preserved : goal.loop-cells-preserved
 loop-cells-preserved g c =

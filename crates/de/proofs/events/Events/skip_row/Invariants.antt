@@ -1,6 +1,6 @@
 use Rattle.std.proofs.Common.{◌-◌}
 use Rattle.de.specs.Held.{body_of}
-use Rattle.de.specs.Rows.{Within}
+use Rattle.de.proofs.RowPass.{Within}
 use Rattle.de.proofs.events.Events.skip_row.Given as goal
 
 abbrev pub invariant-loop-cells : goal.invariant-loop-cells
