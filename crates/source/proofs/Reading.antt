@@ -55,38 +55,3 @@ module _ (f f1 : Feed) (old buf : List ℕ) (at : ℕ) (i : Filling f old at f1 
         left = rw (c.left, drop-drop n at f.bytes) refl;
         front = rw (back part, c.put, long, take-add, drop-drop n at old, append_assoc) refl;
       }
-
--- A read into a buffer's front of m bytes from a slice, whatever ending comes behind the slice.
-pub given : (e : Option SourceFault) (xs ys buf part : List ℕ) (m n : ℕ) → 0 < m → m ≤ length buf → (n ≡ 0 → ⊥) → Read (giving xs None) (take m buf) (Ok n) (giving ys None) part →
-    Read (giving xs e) buf (Ok n) (giving ys e) (part ++ drop m buf)
-given e xs ys buf part m n more fits some h =
-    let long : length (take m buf) ≡ m = simp length-take (omega arith) in
-    let c = came (giving xs None) (giving ys None) (take m buf) part n h (omega (arith, long)) some in
-    let room : n ≤ length (take m buf) = c.room in
-    let there : n ≤ length xs = c.there in
-    let few : length (take n xs) ≡ n = simp length-take (omega arith) in
-    rw (ne_eqb (length buf) 0 (λ e. omega arith), ne_eqb (length xs) 0 (λ e. omega arith)) (record {
-      size = n;
-      gives = refl;
-      some = c.some;
-      room = omega (arith, long);
-      there = there;
-      left = ap (λ f. giving f.bytes e) c.left;
-      put = rw (c.put, few, append_assoc, ← drop-append-le n (take m buf) (drop m buf) room, take-append-drop m buf);
-    })
-
--- The same into the whole buffer.
-pub given_all : (e : Option SourceFault) (xs ys buf buf' : List ℕ) (n : ℕ) → 0 < length buf → (n ≡ 0 → ⊥) → Read (giving xs None) buf (Ok n) (giving ys None) buf' → Read (giving xs e) buf (Ok n) (giving ys e) buf'
-given_all e xs ys buf buf' n more some h =
-    let c = came (giving xs None) (giving ys None) buf buf' n h more some in
-    let there : n ≤ length xs = c.there in
-    let one : 1 ≤ n = c.some in
-    rw (ne_eqb (length buf) 0 (λ e. omega arith), ne_eqb (length xs) 0 (λ e. omega arith)) (record {
-      size = n;
-      gives = refl;
-      some = one;
-      room = c.room;
-      there = there;
-      left = ap (λ f. giving f.bytes e) c.left;
-      put = c.put;
-    })

@@ -1,5 +1,5 @@
 -- That the feeds of the sources are sound: proofs that the sources hand to their trait.
-use Rattle.std.specs.Prelude.{ℕ, zero, suc, ◌+◌, List, [], ◌∷◌, ◌++◌, take, drop, Some, None, Option}
+use Rattle.std.specs.Prelude.{ℕ, zero, suc, ◌+◌, ◌<◌, List, [], ◌∷◌, ◌++◌, take, drop, Some, None, Option}
 use Rattle.std.proofs.Common.{arith, get_or-drop}
 use Rattle.source.specs.Bytes.{Octets}
 use Rattle.source.specs.declared.fault.SourceFault.{SourceFault}
@@ -16,6 +16,9 @@ octets_take zero xs h i = omega arith
 octets_take (suc n) [] h i = omega arith
 octets_take (suc n) (x ∷ xs) h zero = h 0
 octets_take (suc n) (x ∷ xs) h (suc i) = octets_take n xs (λ j. h (suc j)) i
+
+pub octets_first : (x : ℕ) (xs : List ℕ) → Octets (x ∷ xs) → x < 256
+octets_first x xs h = h 0
 
 pub octets_rest : (x : ℕ) (xs : List ℕ) → Octets (x ∷ xs) → Octets xs
 octets_rest x xs h i = h (suc i)

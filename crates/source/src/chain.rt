@@ -36,6 +36,7 @@ impl<P: Source, Q: Source> Source for Chain<P, Q> {
         self.first.pass(n)
     }
 
+    #[inline]
     fn read(&mut self, buf: &mut [u8]) -> Result<usize, SourceFault>
         ensures reads { Read (chained (P.Source.feed self.old.first) (Q.Source.feed self.old.second)) buf.old result (chained (P.Source.feed self.new.first) (Q.Source.feed self.new.second)) buf.new }
         ensures same { (P.Source.feed self.old.first ≡ giving [] None → ⊥) → self.new.second ≡ self.old.second }

@@ -36,8 +36,10 @@ pub trait Source {
         ensures { Passed (reach self.old) (feed self.old) n result (feed self.new) };
 }
 
+// In line, as `Chain::read` is: there the compiler knows that the buffer is not what is read from.
 /// Fills the whole buffer, asking each time for all that is still wanted, or says how the source
 /// ended first.
+#[inline]
 pub fn read_exact<S: Source>(source: &mut S, buf: &mut [u8]) -> Result<(), FillError>
     ensures { Fill (S.Source.feed source.old) buf.old result (S.Source.feed source.new) buf.new }
 {

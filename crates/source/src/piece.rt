@@ -50,15 +50,7 @@ impl<'a> Source for PieceSource<'a> {
         if buf.is_empty() {
             return Ok(0);
         }
-        let most = self.most.max(1);
-        // A read of all that is wanted is a call of its own, whose length is known where the buffer's is.
-        if buf.len() <= most {
-            return match self.slice.read(buf)? {
-                0 => self.ending.map_or(Ok(0), Err),
-                n => Ok(n),
-            };
-        }
-        match self.slice.read(&mut buf[..most])? {
+        match self.slice.give(self.most.max(1), buf) {
             0 => self.ending.map_or(Ok(0), Err),
             n => Ok(n),
         }

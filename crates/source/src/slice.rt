@@ -1,6 +1,6 @@
-ghost use Rattle.std.specs.Prelude.{◌≡◌, None, length};
+ghost use Rattle.std.specs.Prelude.{◌≡◌, min, None, length, take, drop};
 ghost use Rattle.source.specs.Bytes.{Octets};
-ghost use Rattle.source.specs.Feed.{Read, giving, portioned};
+ghost use Rattle.source.specs.Feed.{Read, fronted, giving, portioned};
 ghost use Rattle.source.specs.Sound.{clean_coded};
 
 use super::{Source, SourceFault};
@@ -17,6 +17,31 @@ impl<'a> SliceSource<'a> {
         ensures { result.rest.now ≡ slice.now }
     {
         SliceSource { rest: slice }
+    }
+
+    /// Gives at most so many bytes, as many as are left and fit.
+    pub(crate) fn give(&mut self, most: usize, buf: &mut [u8]) -> usize
+        ensures gives { result ≡ min most (min (length buf.old) (length self.old.rest.now)) }
+        ensures takes { self.new.rest.now ≡ drop result self.old.rest.now }
+        ensures puts { buf.new ≡ fronted (take result self.old.rest.now) buf.old }
+    {
+        // The whole buffer is filled by a copy of its own, which is one move where its length is known.
+        let n = buf.len();
+        if n <= most && n <= self.rest.len() {
+            let (front, rest) = self.rest.split_at(n);
+            buf.copy_from_slice(front);
+            self.rest = rest;
+            return n;
+        }
+        // Nothing is left of the first part of a chain for as long as its second part gives.
+        if self.rest.is_empty() {
+            return 0;
+        }
+        let n = n.min(most).min(self.rest.len());
+        let (front, rest) = self.rest.split_at(n);
+        buf[..n].copy_from_slice(front);
+        self.rest = rest;
+        n
     }
 }
 
@@ -43,18 +68,6 @@ impl<'a> Source for SliceSource<'a> {
         ensures reads { Read (giving self.old.rest.now None) buf.old result (giving self.new.rest.now None) buf.new }
         ensures all { result ≡ portioned (length self.old.rest.now) (giving self.old.rest.now None) (length buf.old) }
     {
-        // The buffer is filled by a copy of its own, which is one move where its length is known.
-        let n = buf.len();
-        if n <= self.rest.len() {
-            let (front, rest) = self.rest.split_at(n);
-            buf.copy_from_slice(front);
-            self.rest = rest;
-            return Ok(n);
-        }
-        let rest = self.rest;
-        let left = rest.len();
-        buf[..left].copy_from_slice(rest);
-        self.rest = &[];
-        Ok(left)
+        Ok(self.give(usize::MAX, buf))
     }
 }
