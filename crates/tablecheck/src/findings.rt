@@ -1,8 +1,11 @@
 //! A file, read by two kinds of readers.
-ghost use Rattle.std.specs.Prelude.{◌≡◌, ◌↔◌, IsTrue, IfOk};
+ghost use Rattle.std.specs.Prelude.{◌≡◌, ◌↔◌, IsTrue, true, IfOk};
 ghost use Rattle.format.specs.declared.refusal.ReadError.TheVariants.{Room};
 ghost use Rattle.format.specs.declared.refusal.Cause.TheVariants.{Read};
-ghost use Rattle.tablecheck.specs.Reports.{IsGood};
+ghost use Rattle.bunser.specs.Outcome.{TellsAt};
+ghost use Rattle.bunser.specs.Reads.{header_read};
+ghost use Rattle.read.specs.Reader.{View};
+ghost use Rattle.tablecheck.specs.Reports.{IsGood, file_view};
 ghost use Rattle.tablecheck.specs.contracts.report.FileReportPartialEq.TheImpl as reports;
 
 use super::content::{Content, Survey};
@@ -142,7 +145,10 @@ pub struct Findings {
 }
 
 impl Findings {
-    pub(crate) fn of(alloc: Global, file: &[u8]) -> Result<Findings, AllocError> {
+    pub(crate) fn of(alloc: Global, file: &[u8]) -> Result<Findings, AllocError>
+        ensures reads { IfOk result (λ found. (w : View) × TellsAt (header_read true (file_view file.now)) found.headers.lent w) }
+        ensures same { IfOk result (λ found. found.headers.lent ≡ found.headers.copied) }
+    {
         Ok(Findings {
             headers: Headers::of(file),
             lent: found(alloc, file, SliceRead::new(file), 0)?,
