@@ -40,6 +40,8 @@ pub fn copying(bytes: &[u8]) -> IoRead<Chain<PieceSource<'_>, PieceSource<'_>>>
 pub struct Headers {
     lent: Result<Header, Refusal>,
     copied: Result<Header, Refusal>,
+    /// Both come to the same.
+    ghost same: { lent ≡ copied },
 }
 
 impl Headers {
@@ -55,7 +57,7 @@ impl Headers {
     }
 
     pub(crate) fn agree(&self) -> bool
-        ensures { self.now.lent ≡ self.now.copied → IsTrue result }
+        ensures { IsTrue result }
     {
         self.lent == self.copied
     }
