@@ -16,6 +16,7 @@ use Rattle.format.specs.declared.refusal.Refusal.{Refusal}
 use Rattle.format.specs.Integers.{bytes_of, little_endian, twos_complement}
 use Rattle.bunser.specs.declared.Header.{Header}
 use Rattle.bunser.specs.Outcome.{Outcome, got, bad, and_then, at, placed, judged, asked, answer, TellsAt}
+use Rattle.tablecheck.specs.Reports.{header_told}
 use Rattle.bunser.specs.Reads.{peek_read, array_read, int_width, behind_tag, tagged_int_read, count_of, told_as, count_read, magical, is_magic, magic_read, capabilities_read, bounded, length_read, header_read}
 
 -- the same reader but for lending and copying, and for a stop that is far away; so many bytes are taken at most
@@ -176,13 +177,28 @@ header_same v w a =
     (same_placed 6 x.count y.count _ _ b.count (taking 2 x y b 4 (λ xs. little_endian (take 4 xs)) (omega arith)))
     (λ caps s t d. length_same 6 (omega arith) caps s t d))
 
+told_alike : (most : ℕ) (m n : Outcome Refusal Header) → Same most m n → header_told m ≡ header_told n
+told_alike most _ _ (both_got h) = refl
+told_alike most _ _ both_bad = refl
+
 -- a file over a slice, and in a chain of two parts, as the readers have them when they are new
 module _ (xs a b : List ℕ) (s : SliceRead) (k : ℕ) (ea eb : Option SourceFault) (o : Option ℕ) where
+  alike : s.slice.now ≡ xs → s.index ≡ 0 → s.peeked ≡ false → a ++ b ≡ xs → ea ≡ None → eb ≡ None → o ≡ None → k ≡ 0 → Alike 0 (slice_view s) (io_view (chained (giving a ea) (giving b eb)) o k)
+  alike is_s is_i is_p parts clean_a clean_b is_o is_k =
+      rw (is_s, is_i, is_p, clean_a, clean_b, is_o, is_k) (record { coming = sym parts; ending = refl; count = refl; peeked = refl; unstopped = refl; stops = refl; few = omega arith })
+
   pub agree : s.slice.now ≡ xs → s.index ≡ 0 → s.peeked ≡ false → a ++ b ≡ xs → ea ≡ None → eb ≡ None → o ≡ None → k ≡ 0 → (r q : Result Header Refusal) (v w : View) →
       TellsAt (header_read true (slice_view s)) r v →
       TellsAt (header_read false (io_view (chained (giving a ea) (giving b eb)) o k)) q w → r ≡ q
   agree is_s is_i is_p parts clean_a clean_b is_o is_k r q v w h t =
-      told_same 15 (header_read true (slice_view s)) (header_read false (io_view (chained (giving a ea) (giving b eb)) o k)) r q v w (header_same _ _ alike) h t
-    where
-      alike : Alike 0 (slice_view s) (io_view (chained (giving a ea) (giving b eb)) o k)
-      alike = rw (is_s, is_i, is_p, clean_a, clean_b, is_o, is_k) (record { coming = sym parts; ending = refl; count = refl; peeked = refl; unstopped = refl; stops = refl; few = omega arith })
+      told_same 15 (header_read true (slice_view s)) (header_read false (io_view (chained (giving a ea) (giving b eb)) o k)) r q v w
+      (header_same _ _ (alike is_s is_i is_p parts clean_a clean_b is_o is_k)) h t
+
+  pub told_agree : s.slice.now ≡ xs → s.index ≡ 0 → s.peeked ≡ false → a ++ b ≡ xs → ea ≡ None → eb ≡ None → o ≡ None → k ≡ 0 →
+      header_told (header_read true (slice_view s)) ≡ header_told (header_read false (io_view (chained (giving a ea) (giving b eb)) o k))
+  told_agree is_s is_i is_p parts clean_a clean_b is_o is_k = told_alike 15 _ _ (header_same _ _ (alike is_s is_i is_p parts clean_a clean_b is_o is_k))
+
+-- the result of a read is what the read tells
+pub told_by : (m : Outcome Refusal Header) (r : Result Header Refusal) (w : View) → TellsAt m r w → r ≡ header_told m
+told_by (got h v) r w t = t.0
+told_by (bad f v) r w t = t.0

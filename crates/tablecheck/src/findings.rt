@@ -1,11 +1,13 @@
 //! A file, read by two kinds of readers.
-ghost use Rattle.std.specs.Prelude.{◌≡◌, ◌↔◌, IsTrue, true, IfOk};
+ghost use Rattle.std.specs.Prelude.{◌≡◌, ◌≢◌, ◌↔◌, IsTrue, true, [], Some, None, IfOk, OnOk};
 ghost use Rattle.format.specs.declared.refusal.ReadError.TheVariants.{Room};
 ghost use Rattle.format.specs.declared.refusal.Cause.TheVariants.{Read};
 ghost use Rattle.bunser.specs.Outcome.{TellsAt};
 ghost use Rattle.bunser.specs.Reads.{header_read};
+ghost use Rattle.de.specs.Calls.{fresh};
+ghost use Rattle.de.specs.Decoding.{state_of};
 ghost use Rattle.read.specs.Reader.{View};
-ghost use Rattle.tablecheck.specs.Reports.{IsGood, file_view};
+ghost use Rattle.tablecheck.specs.Reports.{IsGood, file_view, header_told, first_header};
 ghost use Rattle.tablecheck.specs.contracts.report.FileReportPartialEq.TheImpl as reports;
 
 use super::content::{Content, Survey};
@@ -73,7 +75,8 @@ impl<'a, R: DeRead + Drop> Reading<'a, R> {
 
     // The PDU of this token.
     fn read_pdu(&mut self, info: PduInfo) -> Result<PduReport, AllocError>
-        ensures { IfOk result (λ r. IfOk r.outcome (λ closed. closed.events ≡ r.events)) }
+        ensures header { IfOk result (λ r. r.header ≡ info.header) }
+        ensures events { IfOk result (λ r. IfOk r.outcome (λ closed. closed.events ≡ r.events)) }
     {
         let header = info.header();
         let content = self.survey();
@@ -90,33 +93,48 @@ impl<'a, R: DeRead + Drop> Reading<'a, R> {
         })
     }
 
-    // All PDUs of the file, up to its end or to a refusal.
-    fn read_file(&mut self) -> Result<FileReport, AllocError> {
-        let mut pdus = Vec::new(self.alloc);
-        let mut unopened = None;
-        let mut place = 0;
-        // Each PDU takes bytes, so there are no more PDUs than bytes.
-        for _ in 0..self.file.len() {
-            if place >= self.file.len() {
-                break;
+    // The PDU that comes next. Tells whether another may stand behind it.
+    fn read_next(&mut self, report: &mut FileReport) -> Result<bool, AllocError>
+        ensures first { (v : View) → state_of R.DeRead.view self.old.decoder ≡ fresh v → report.old.pdus.items ≡ [] → OnOk result (first_header report.new ≡ Some (header_told (header_read R.DeRead.lends v))) }
+        ensures kept { report.old.pdus.items ≢ [] → OnOk result (first_header report.new ≡ first_header report.old) }
+        ensures more { IfOk result (λ more. IsTrue more → report.new.pdus.items ≢ []) }
+    {
+        match self.decoder.open() {
+            Ok(info) => {
+                let pdu = self.read_pdu(info)?;
+                let place = pdu.header.start.saturating_add(pdu.header.length);
+                let more = pdu.is_accepted() && place < self.file.len();
+                report.pdus.push(pdu)?;
+                Ok(more)
             }
-            match self.decoder.open() {
-                Ok(info) => {
-                    let pdu = self.read_pdu(info)?;
-                    place = pdu.header.start.saturating_add(pdu.header.length);
-                    let accepted = pdu.is_accepted();
-                    pdus.push(pdu)?;
-                    if !accepted {
-                        break;
-                    }
-                }
-                Err(_) => {
-                    unopened = Some(self.decoder.refusal().unwrap());
-                    break;
-                }
+            Err(_) => {
+                report.unopened = Some(self.decoder.refusal().unwrap());
+                Ok(false)
             }
         }
-        Ok(FileReport { pdus, unopened })
+    }
+
+    // All PDUs of the file, up to its end or to a refusal.
+    fn read_file(&mut self) -> Result<FileReport, AllocError>
+        ensures first { (v : View) → state_of R.DeRead.view self.old.decoder ≡ fresh v → self.old.file.now ≢ [] → IfOk result (λ r. first_header r ≡ Some (header_told (header_read R.DeRead.lends v))) }
+        ensures empty { self.old.file.now ≡ [] → IfOk result (λ r. first_header r ≡ None) }
+    {
+        let mut report = FileReport {
+            pdus: Vec::new(self.alloc),
+            unopened: None,
+        };
+        if self.file.is_empty() {
+            return Ok(report);
+        }
+        let mut more = self.read_next(&mut report)?;
+        // Each PDU takes bytes, so there are no more PDUs than bytes.
+        for _ in 1..self.file.len() {
+            if !more {
+                break;
+            }
+            more = self.read_next(&mut report)?;
+        }
+        Ok(report)
     }
 }
 
@@ -126,7 +144,10 @@ fn found<R: DeRead + Drop>(
     file: &[u8],
     reader: R,
     room: usize,
-) -> Result<FileReport, AllocError> {
+) -> Result<FileReport, AllocError>
+    ensures first { file.now ≢ [] → IfOk result (λ r. first_header r ≡ Some (header_told (header_read R.DeRead.lends (R.DeRead.view reader)))) }
+    ensures empty { file.now ≡ [] → IfOk result (λ r. first_header r ≡ None) }
+{
     let mut reading = Reading {
         alloc,
         file,
@@ -148,6 +169,9 @@ impl Findings {
     pub(crate) fn of(alloc: Global, file: &[u8]) -> Result<Findings, AllocError>
         ensures reads { IfOk result (λ found. (w : View) × TellsAt (header_read true (file_view file.now)) found.headers.lent w) }
         ensures same { IfOk result (λ found. found.headers.lent ≡ found.headers.copied) }
+        ensures lent { file.now ≢ [] → IfOk result (λ found. first_header found.lent ≡ Some found.headers.lent) }
+        ensures copied { file.now ≢ [] → IfOk result (λ found. first_header found.copied ≡ Some found.headers.copied) }
+        ensures empty { file.now ≡ [] → IfOk result (λ found. (first_header found.lent ≡ None) × (first_header found.copied ≡ None)) }
     {
         Ok(Findings {
             headers: Headers::of(file),
