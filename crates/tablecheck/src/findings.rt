@@ -34,17 +34,33 @@ struct Reading<'a, R: DeRead> {
     alloc: Global,
     file: &'a [u8],
     text: Vec<u8>,
+    /// How much room for a text there may be at most.
+    most: usize,
     decoder: Decoder<R>,
 }
 
 impl<'a, R: DeRead + Drop> Reading<'a, R> {
-    // A reader that copies has room for as many bytes as the file has. A text that is longer cannot
-    // be there; passing it over tells why.
-    fn passes_long_text(&mut self) -> bool {
+    fn lacks_room(&self) -> bool {
         self.decoder
             .refusal()
             .is_some_and(|refusal| is_room(&refusal))
-            && self.decoder.skip().is_ok()
+    }
+
+    // Whether reading goes on behind a refusal. The room grows, for a reader that copies to as many
+    // bytes as the file has. A text that is longer cannot be there; passing it over tells why.
+    fn goes_on(&mut self) -> Result<bool, AllocError> {
+        if !self.lacks_room() {
+            return Ok(false);
+        }
+        let room = self.text.len();
+        if room >= self.most {
+            return Ok(self.decoder.skip().is_ok());
+        }
+        let more = room.saturating_mul(2).max(64).min(self.most);
+        // The old room goes first, so that both never stand side by side.
+        self.text = Vec::new(self.alloc);
+        self.text = vec![in self.alloc; 0u8; more]?;
+        Ok(true)
     }
 
     // The bytes of a key, and none of another event.
@@ -66,7 +82,7 @@ impl<'a, R: DeRead + Drop> Reading<'a, R> {
                     };
                     survey.note(event, key)?;
                 }
-                Err(_) if self.passes_long_text() => {}
+                Err(_) if self.goes_on()? => {}
                 Ok(None) | Err(_) => break,
             }
         }
@@ -143,7 +159,7 @@ fn found<R: DeRead + Drop>(
     alloc: Global,
     file: &[u8],
     reader: R,
-    room: usize,
+    most: usize,
 ) -> Result<FileReport, AllocError>
     ensures first { file.now ≢ [] → IfOk result (λ r. first_header r ≡ Some (header_told (header_read R.DeRead.lends (R.DeRead.view reader)))) }
     ensures empty { file.now ≡ [] → IfOk result (λ r. first_header r ≡ None) }
@@ -151,7 +167,8 @@ fn found<R: DeRead + Drop>(
     let mut reading = Reading {
         alloc,
         file,
-        text: vec![in alloc; 0u8; room]?,
+        text: Vec::new(alloc),
+        most,
         decoder: Decoder::new(reader),
     };
     reading.read_file()

@@ -16,11 +16,16 @@ use std::{env, fs};
 fn examine(rt: &HostRuntime, path: &str) -> anyhow::Result<bool> {
     println!(rt; "{path}")?;
     match fs::read(rt, path) {
-        Ok(bytes) => {
-            let findings = Findings::of(rt.alloc(), bytes.as_slice())?;
-            println!(rt; "{findings}")?;
-            Ok(findings.is_good())
-        }
+        Ok(bytes) => match Findings::of(rt.alloc(), bytes.as_slice()) {
+            Ok(findings) => {
+                println!(rt; "{findings}")?;
+                Ok(findings.is_good())
+            }
+            Err(error) => {
+                println!(rt; "  cannot be read: {error}")?;
+                Ok(false)
+            }
+        },
         Err(error) => {
             println!(rt; "  cannot be read: {error}")?;
             Ok(false)
