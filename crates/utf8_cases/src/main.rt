@@ -73,23 +73,22 @@ impl Tallies {
     }
 }
 
-fn compared() -> Tallies {
+// Each line is printed as soon as its count stands.
+fn main(rt: HostRuntime) -> anyhow::Result<()> {
     let mut tallies = Tallies::default();
     tallies.note(&[]);
+    println!(rt; "0 bytes: {}", tallies.0[0])?;
     for a in 0..=255u8 {
         tallies.up_to_three(a);
+    }
+    for (length, tally) in tallies.0.iter().enumerate().take(4).skip(1) {
+        println!(rt; "{length} bytes: {tally}")?;
     }
     for a in 0xee..=0xf7u8 {
         for b in 0..=255u8 {
             tallies.four(a, b);
         }
     }
-    tallies
-}
-
-fn main(rt: HostRuntime) -> anyhow::Result<()> {
-    for (length, tally) in compared().0.iter().enumerate() {
-        println!(rt; "{length} bytes: {tally}")?;
-    }
+    println!(rt; "4 bytes: {}", tallies.0[4])?;
     Ok(())
 }
